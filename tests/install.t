@@ -37,7 +37,7 @@ What is completed, where the last word is the one that is being typed.
   > }
   $ printf '[[session]]\nid = 7\n[[session]]\nid = 12\n' >two.toml
   $ completed netpump ''
-  audit chain compare exercise format migrate race receive replay send serve show unwrap wrap
+  append audit chain compare exercise format messages migrate race receive replay send serve show status unwrap wrap
   $ completed netpump re
   receive replay
   $ completed netpump serve tw

@@ -13,9 +13,12 @@ The words are no command.
     serve TABLE S LOOKS         relays session S over the two ports of its row, both on 127.0.0.1, and prints a record of Low's side; each side makes LOOKS rounds
     receive TABLE S LOOKS       takes the messages of session S from its relay, and prints a line for each; it ends after LOOKS looks at the link
     send TABLE S LOOKS          sends the messages on standard input, a line of hexadecimal digits each, to the relay of session S, and prints a line for each that is stored; it waits LOOKS looks at most for an answer
+    append TABLE S LOOKS        sends each line on standard input as a new message of session S, connects again where a connection breaks, and at its end prints how many lines are stored; LOOKS is how many looks and attempts to connect it makes at most
     migrate TABLE S NEWTABLE T  writes what session S has on the three empty disks of session T, which has a row in the file NEWTABLE, and changes none of its own
     wrap TABLE S                sends the file on standard input over the pump of session S until its receiver has all of it, as in: netpump wrap TABLE S < FILE
     unwrap TABLE S              writes the file that the messages with the receiver of session S are, and nothing else
+    messages TABLE S FROM       prints a line for each message that the receiver of session S has, from number FROM on, where 0 is the first; it may run beside the receiver
+    status TABLE S              prints how many messages session S has accepted, removed and received, how many lie in its relay, and how many may; it may run beside the relay
     audit                       checks the record on standard input, and prints that it is clean, or the first line that is wrong and its cause, as in: netpump audit < RECORD
     compare                     compares Low's side of two records on standard input, with a line '# compare' between them, and prints that they agree, or the first item that differs
     chain                       reads a script of two sessions from standard input, of which the second one sends on what the receiver of the first one has, and prints its transcript, as in: netpump chain < SCRIPT
@@ -268,6 +271,17 @@ empty, messages that are no file's, and a file that is not there whole.
   formatted 1
   netpump: the receiver of session 1 has not all messages of its file yet; what it has of it was written. Unwrap it again, once the file is sent to its end
   [14]
+
+The file of a disk can't be read beside a relay.
+
+  $ anew; netpump messages t.toml 1 0
+  fault device 1 recv
+  netpump: the file 1.recv in this folder could not be read: there is no such file; run this in the folder of the disks, as a user that may read them
+  [7]
+  $ mkdir 1.high; netpump status t.toml 1
+  fault device 1 high
+  netpump: what is called 1.high in this folder is no regular file but a folder, a link, a device or a pipe; run this in the folder of the disks
+  [7]
 
 Two pumps are no chain.
 

@@ -57,11 +57,12 @@ Nobody answers.
 
 The record can't be written, nor what the sender and the receiver print. Then the relay ends while a sender is at its port.
 
-  $ netpump serve t.toml 1 1 >/dev/full
+  $ netpump serve t.toml 1 1 2>said >/dev/full; status=$?
+  $ grep -e ' ended: ' -e '^netpump' said | sed 's/^[^ ]*Z //'; (exit $status)
   netpump: the low side of session 1 has ended: the record could not be written; see that its disk has room, or that its reader is there. Its port * is closed, and the high side goes on to its own end; stop this relay and start it again (glob)
   netpump: standard output could not be written; see that its reader is there, or that its disk has room, and start the relay again, with a new file for the record, since nothing was taken from Low any more. What was acknowledged is kept
   [4]
-  $ netpump serve t.toml 1 4294967295 >record & relay=$!
+  $ netpump serve t.toml 1 4294967295 >record 2>said & relay=$!
   $ while [ ! -s record ]; do sleep 0.01; done
   $ echo 61 | netpump send t.toml 1 20000 >/dev/full
   netpump: standard output could not be written; see that its reader is there, or that its disk has room, and send all lines again: those that are stored are passed over

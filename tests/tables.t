@@ -41,7 +41,7 @@ The two rows of refused_tables.t, at ports that nobody else has: each number but
   $ opened() {
   >   rm -f *.low *.high *.recv
   >   for session in 1 4294967295; do
-  >     netpump format t.toml $session >said && netpump serve t.toml $session 1 || cat said
+  >     netpump format t.toml $session >said && netpump serve t.toml $session 1 2>log || cat said
   >   done
   > }
   $ changed() { printf '%s\n' "${both//"$1"/"$2"}" >t.toml; opened; }

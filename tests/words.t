@@ -34,6 +34,8 @@ These are no commands.
   > race 0 1
   > send t.toml 1 0
   > send t.toml 1 4294967296
+  > append t.toml 1 0
+  > append t.toml 1
   > serve t.toml 1 05
   > receive t.toml 1
   > recv t.toml 1 5
@@ -45,6 +47,12 @@ These are no commands.
   > wrap t.toml
   > unwrap t.toml
   > unwrap t.toml 01
+  > messages t.toml 1
+  > messages t.toml 1 01
+  > messages t.toml 1 4294967296
+  > messages t.toml 1 0 0
+  > status t.toml
+  > status t.toml 1 1
   > audit record
   > chain t.toml 1
   > help
@@ -76,6 +84,8 @@ These are no commands.
   2 race 0 1: fault words
   2 send t.toml 1 0: fault words
   2 send t.toml 1 4294967296: fault words
+  2 append t.toml 1 0: fault words
+  2 append t.toml 1: fault words
   2 serve t.toml 1 05: fault words
   2 receive t.toml 1: fault words
   2 recv t.toml 1 5: fault words
@@ -87,6 +97,12 @@ These are no commands.
   2 wrap t.toml: fault words
   2 unwrap t.toml: fault words
   2 unwrap t.toml 01: fault words
+  2 messages t.toml 1: fault words
+  2 messages t.toml 1 01: fault words
+  2 messages t.toml 1 4294967296: fault words
+  2 messages t.toml 1 0 0: fault words
+  2 status t.toml: fault words
+  2 status t.toml 1 1: fault words
   2 audit record: fault words
   2 chain t.toml 1: fault words
   2 help: fault words
@@ -165,6 +181,7 @@ The others are over tables: one with the sessions 1 and 4294967295, whose ports 
   > serve t.toml 1 5
   > receive t.toml 1 4294967295
   > send t.toml 4294967295 1
+  > append t.toml 4294967295 3
   > migrate t.toml 1 u.toml 4294967295
   > migrate t.toml 1 t.toml 1
   > format t.toml 4294967295
@@ -172,12 +189,17 @@ The others are over tables: one with the sessions 1 and 4294967295, whose ports 
   > show a234567890123456789012345678901234567890123456789012345678901234 1
   > wrap t.toml 1
   > unwrap t.toml 1
+  > messages t.toml 1 0
+  > messages t.toml 1 4294967295
+  > status t.toml 1
   > .
   0 format t.toml 1: formatted 1
   0 format 0 0: formatted 0
   0 serve t.toml 1 5: low-session 1 3 12 2 20000 100000 500000 weather watch 0 0
   9 receive t.toml 1 4294967295: fault link
   9 send t.toml 4294967295 1: fault link
+  12 append t.toml 4294967295 3: appended 4294967295 0 0
+  fault unfinished 0
   0 migrate t.toml 1 u.toml 4294967295: migrated 1 4294967295 0 0 0
   6 migrate t.toml 1 t.toml 1: fault table 13 1
   8 format t.toml 4294967295: fault disk 4294967295 low 9 122 0
@@ -185,3 +207,6 @@ The others are over tables: one with the sessions 1 and 4294967295, whose ports 
   0 show a234567890123456789012345678901234567890123456789012345678901234 1: show 1 0 0 0
   0 wrap t.toml 1: wrapped 1 0 1
   0 unwrap t.toml 1
+  0 messages t.toml 1 0: message 1 0 010000000000000000
+  0 messages t.toml 1 4294967295
+  0 status t.toml 1: status 1 1 1 1 0 3

@@ -7,7 +7,7 @@ use Rattle.std.specs.Str.{bytes_eq}
 use Rattle.command_line.specs.Commands.{IsCommand, IsLooking, AreWordsOf, words_of}
 use Rattle.command_line.proofs.Commas.{one_list}
 use Rattle.command_line.specs.declared.command.Command.{Command}
-use Rattle.command_line.specs.declared.command.Command.TheVariants.{Replay, Format, Show, Exercise, Race, Serve, Receive, Send, Migrate, Wrap, Unwrap, Audit, Compare, Chain}
+use Rattle.command_line.specs.declared.command.Command.TheVariants.{Replay, Format, Show, Exercise, Race, Serve, Receive, Send, Append, Migrate, Wrap, Unwrap, Messages, Status, Audit, Compare, Chain}
 use Rattle.command_line.specs.declared.command.WordsFault.{WordsFault}
 use Rattle.command_line.specs.declared.command.WordsFault.TheVariants.{NoCommand, Memory}
 
@@ -29,9 +29,12 @@ name_of (Race m n ts) = codes "race"
 name_of (Serve t n k) = codes "serve"
 name_of (Receive t n k) = codes "receive"
 name_of (Send t n k) = codes "send"
+name_of (Append t n k) = codes "append"
 name_of (Migrate t n u m) = codes "migrate"
 name_of (Wrap t n) = codes "wrap"
 name_of (Unwrap t n) = codes "unwrap"
+name_of (Messages t n k) = codes "messages"
+name_of (Status t n) = codes "status"
 name_of Audit = codes "audit"
 name_of Compare = codes "compare"
 name_of Chain = codes "chain"
@@ -70,6 +73,8 @@ one_command (Receive t n i) (Receive u m j) h k e = same_looks Receive t u n m i
 one_command (Receive t n i) d h k e = absurd (apart (codes "receive") (name_of d) _ _ refl e)
 one_command (Send t n i) (Send u m j) h k e = same_looks Send t u n m i j h k (codes "send") e
 one_command (Send t n i) d h k e = absurd (apart (codes "send") (name_of d) _ _ refl e)
+one_command (Append t n i) (Append u m j) h k e = same_looks Append t u n m i j h k (codes "append") e
+one_command (Append t n i) d h k e = absurd (apart (codes "append") (name_of d) _ _ refl e)
 one_command (Migrate t n v i) (Migrate u m w j) h k e =
     let tables : t ≡ u = ap (λ l. get_or l 1 []) e in
     let sessions = same_number n m (omega (arith, h.0.1)) (omega (arith, k.0.1)) (ap (λ l. get_or l 2 []) e) in
@@ -81,6 +86,14 @@ one_command (Wrap t n) (Wrap u m) h k e = same_session Wrap t u n m h.1 k.1 (cod
 one_command (Wrap t n) d h k e = absurd (apart (codes "wrap") (name_of d) _ _ refl e)
 one_command (Unwrap t n) (Unwrap u m) h k e = same_session Unwrap t u n m h.1 k.1 (codes "unwrap") e
 one_command (Unwrap t n) d h k e = absurd (apart (codes "unwrap") (name_of d) _ _ refl e)
+one_command (Messages t n i) (Messages u m j) h k e =
+    let tables : t ≡ u = ap (λ l. get_or l 1 []) e in
+    let sessions = same_number n m (omega (arith, h.0.1)) (omega (arith, k.0.1)) (ap (λ l. get_or l 2 []) e) in
+    let numbers = same_number i j (omega (arith, h.1)) (omega (arith, k.1)) (ap (λ l. get_or l 3 []) e) in
+    λ p. Messages (tables p) (sessions p) (numbers p)
+one_command (Messages t n i) d h k e = absurd (apart (codes "messages") (name_of d) _ _ refl e)
+one_command (Status t n) (Status u m) h k e = same_session Status t u n m h.1 k.1 (codes "status") e
+one_command (Status t n) d h k e = absurd (apart (codes "status") (name_of d) _ _ refl e)
 one_command Audit Audit h k e = refl
 one_command Audit d h k e = absurd (apart (codes "audit") (name_of d) _ _ refl e)
 one_command Compare Compare h k e = refl

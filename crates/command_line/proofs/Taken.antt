@@ -10,10 +10,10 @@ use Rattle.clap.specs.declared.builder.value_parser.Reading.TheVariants.{AsWritt
 use Rattle.clap.proofs.OnLiterals.{clap_on_literals}
 use Rattle.command_line.specs.Commands.{IsSession, IsLooking, IsCommand, AreWordsOf}
 use Rattle.command_line.specs.TimeLists.{AreTimes, times_word}
-use Rattle.command_line.specs.Found.{GivesSession, GivesLooks, GivesNewSession, Gives, GivesIn}
+use Rattle.command_line.specs.Found.{GivesSession, GivesLooks, GivesFrom, GivesNewSession, Gives, GivesIn}
 use Rattle.command_line.specs.Program.{bare, leaf_two, leaf_three, leaf_four, program, value_rule}
 use Rattle.command_line.specs.declared.command.Command.{Command}
-use Rattle.command_line.specs.declared.command.Command.TheVariants.{Replay, Format, Show, Exercise, Race, Serve, Receive, Send, Migrate, Wrap, Unwrap, Audit, Compare, Chain}
+use Rattle.command_line.specs.declared.command.Command.TheVariants.{Replay, Format, Show, Exercise, Race, Serve, Receive, Send, Append, Migrate, Wrap, Unwrap, Messages, Status, Audit, Compare, Chain}
 use Rattle.command_line.proofs.PlainWalks.{behind, walks_on, passes_on, passed}
 use Rattle.command_line.proofs.Plain.{plain_decimal, plain_table, plain_times}
 
@@ -99,6 +99,14 @@ unwrap_met t s = refl
 unwrap_taken : (x y : ℕ) (xs ys : Text) → (x == 45) ≡ false → (y == 45) ≡ false → takes program (codes "unwrap" ∷ (x ∷ xs) ∷ (y ∷ ys) ∷ []) ≡ true
 unfolding clap_on_literals
 unwrap_taken x y xs ys h k = ap (λ b. b && true) (session_passes (codes "unwrap") x y xs ys h k)
+
+status_met : (t s : Text) → subcommand_of program (codes "status" ∷ t ∷ s ∷ []) ≡ Some (codes "status", rows_after table_rules [] (t ∷ s ∷ []))
+unfolding clap_on_literals
+status_met t s = refl
+
+status_taken : (x y : ℕ) (xs ys : Text) → (x == 45) ≡ false → (y == 45) ≡ false → takes program (codes "status" ∷ (x ∷ xs) ∷ (y ∷ ys) ∷ []) ≡ true
+unfolding clap_on_literals
+status_taken x y xs ys h k = ap (λ b. b && true) (session_passes (codes "status") x y xs ys h k)
 
 -- the two that read records
 
@@ -236,6 +244,47 @@ send_taken : (x y z : ℕ) (xs ys zs : Text) → (x == 45) ≡ false → (y == 4
 unfolding clap_on_literals
 send_taken x y z xs ys zs h k m = ap (λ b. b && true) (looks_passes (codes "send") x y z xs ys zs h k m)
 
+append_met : (t s u : Text) → subcommand_of program (codes "append" ∷ t ∷ s ∷ u ∷ []) ≡ Some (codes "append", rows_after looks_rules [] (t ∷ s ∷ u ∷ []))
+unfolding clap_on_literals
+append_met t s u = refl
+
+append_taken : (x y z : ℕ) (xs ys zs : Text) → (x == 45) ≡ false → (y == 45) ≡ false → (z == 45) ≡ false → takes program (codes "append" ∷ (x ∷ xs) ∷ (y ∷ ys) ∷ (z ∷ zs) ∷ []) ≡ true
+unfolding clap_on_literals
+append_taken x y z xs ys zs h k m = ap (λ b. b && true) (looks_passes (codes "append") x y z xs ys zs h k m)
+
+-- a table, a session and the number of a message
+
+abbrev pub from_rules : List Rule
+from_rules = filled_from 1 (value_rule (codes "TABLE") ∷ value_rule (codes "S") ∷ value_rule (codes "FROM") ∷ [])
+
+from_rows : (x y z : ℕ) (xs ys zs : Text) → (x == 45) ≡ false → (y == 45) ≡ false → (z == 45) ≡ false
+    → rows_after from_rules [] ((x ∷ xs) ∷ (y ∷ ys) ∷ (z ∷ zs) ∷ []) ≡ row (codes "TABLE") (x ∷ xs) ∷ row (codes "S") (y ∷ ys) ∷ row (codes "FROM") (z ∷ zs) ∷ []
+unfolding clap_on_literals
+from_rows x y z xs ys zs h k m = simp (h, k, m)
+
+from_given : (t : Text) (n k : ℕ) → IsSession t n → k < 2 ^ 32 → GivesFrom t n k (rows_after from_rules [] (t ∷ decimal n ∷ decimal k ∷ []))
+from_given t n k h small =
+    let p = plain_table t h.0 in
+    let q = plain_decimal n (omega (arith, h.1)) in
+    let r = plain_decimal k (omega (arith, small)) in
+    rw (p.whole, q.whole, r.whole, from_rows p.first q.first r.first p.rest q.rest r.rest p.undashed q.undashed r.undashed) (refl, refl, refl)
+
+abbrev from_shape : Text → Shape
+from_shape name = built_leaf (inherited bare.top (leaf_three name (codes "TABLE") (codes "S") (codes "FROM")).top)
+
+from_passes : (name : Text) (x y z : ℕ) (xs ys zs : Text) → (x == 45) ≡ false → (y == 45) ≡ false → (z == 45) ≡ false
+    → level_passes (from_shape name) [] nothing_held ((x ∷ xs) ∷ (y ∷ ys) ∷ (z ∷ zs) ∷ []) false ≡ true
+unfolding clap_on_literals
+from_passes name x y z xs ys zs h k m = simp (h, k, m)
+
+messages_met : (t s u : Text) → subcommand_of program (codes "messages" ∷ t ∷ s ∷ u ∷ []) ≡ Some (codes "messages", rows_after from_rules [] (t ∷ s ∷ u ∷ []))
+unfolding clap_on_literals
+messages_met t s u = refl
+
+messages_taken : (x y z : ℕ) (xs ys zs : Text) → (x == 45) ≡ false → (y == 45) ≡ false → (z == 45) ≡ false → takes program (codes "messages" ∷ (x ∷ xs) ∷ (y ∷ ys) ∷ (z ∷ zs) ∷ []) ≡ true
+unfolding clap_on_literals
+messages_taken x y z xs ys zs h k m = ap (λ b. b && true) (from_passes (codes "messages") x y z xs ys zs h k m)
+
 -- a session of one table and one of another
 
 abbrev pub migrate_rules : List Rule
@@ -304,6 +353,7 @@ words_taken words (Race m n ts) h =
 words_taken words (Serve t n k) h = ap (takes program) h.1 ∙ looks_taken (codes "serve") t n k h.0 serve_taken
 words_taken words (Receive t n k) h = ap (takes program) h.1 ∙ looks_taken (codes "receive") t n k h.0 receive_taken
 words_taken words (Send t n k) h = ap (takes program) h.1 ∙ looks_taken (codes "send") t n k h.0 send_taken
+words_taken words (Append t n k) h = ap (takes program) h.1 ∙ looks_taken (codes "append") t n k h.0 append_taken
 words_taken words (Migrate t n u m) h =
     let p = plain_table t h.0.0.0 in
     let q = plain_decimal n (omega (arith, h.0.0.1)) in
@@ -313,6 +363,12 @@ words_taken words (Migrate t n u m) h =
     (migrate_taken p.first q.first r.first s.first p.rest q.rest r.rest s.rest p.undashed q.undashed r.undashed s.undashed)
 words_taken words (Wrap t n) h = ap (takes program) h.1 ∙ session_taken (codes "wrap") t n h.0 wrap_taken
 words_taken words (Unwrap t n) h = ap (takes program) h.1 ∙ session_taken (codes "unwrap") t n h.0 unwrap_taken
+words_taken words (Messages t n k) h =
+    let p = plain_table t h.0.0.0 in
+    let q = plain_decimal n (omega (arith, h.0.0.1)) in
+    let r = plain_decimal k (omega (arith, h.0.1)) in
+    rw (h.1, p.whole, q.whole, r.whole) (messages_taken p.first q.first r.first p.rest q.rest r.rest p.undashed q.undashed r.undashed)
+words_taken words (Status t n) h = ap (takes program) h.1 ∙ session_taken (codes "status") t n h.0 status_taken
 words_taken words Audit h = ap (takes program) h.1 ∙ audit_taken
 words_taken words Compare h = ap (takes program) h.1 ∙ compare_taken
 words_taken words Chain h = ap (takes program) h.1 ∙ chain_taken
@@ -348,11 +404,14 @@ values_found words (Race m n ts) h =
 values_found words (Serve t n k) h = found_as (Serve t n k) h.1 (serve_met _ _ _) (refl, looks_given t n k h.0)
 values_found words (Receive t n k) h = found_as (Receive t n k) h.1 (receive_met _ _ _) (refl, looks_given t n k h.0)
 values_found words (Send t n k) h = found_as (Send t n k) h.1 (send_met _ _ _) (refl, looks_given t n k h.0)
+values_found words (Append t n k) h = found_as (Append t n k) h.1 (append_met _ _ _) (refl, looks_given t n k h.0)
 values_found words (Migrate t n u m) h =
     let given = migrate_given t u n m h.0.0 h.0.1 _ refl in
     found_as (Migrate t n u m) h.1 (migrate_met _ _ _ _) (refl, given.0, given.1)
 values_found words (Wrap t n) h = found_as (Wrap t n) h.1 (wrap_met _ _) (refl, session_given t n h.0)
 values_found words (Unwrap t n) h = found_as (Unwrap t n) h.1 (unwrap_met _ _) (refl, session_given t n h.0)
+values_found words (Messages t n k) h = found_as (Messages t n k) h.1 (messages_met _ _ _) (refl, from_given t n k h.0.0 h.0.1)
+values_found words (Status t n) h = found_as (Status t n) h.1 (status_met _ _) (refl, session_given t n h.0)
 values_found words Audit h = found_as Audit h.1 audit_met refl
 values_found words Compare h = found_as Compare h.1 compare_met refl
 values_found words Chain h = found_as Chain h.1 chain_met refl

@@ -3,7 +3,7 @@ use Rattle.std.specs.Prelude.{◌≡◌, ℕ, ◌≤◌, ◌<◌, ◌^◌, true,
 use Rattle.command_line.specs.TableNames.{is_table_name}
 use Rattle.command_line.specs.TimeLists.{AreTimes, times_word}
 use Rattle.command_line.specs.declared.command.Command.{Command}
-use Rattle.command_line.specs.declared.command.Command.TheVariants.{Replay, Format, Show, Exercise, Race, Serve, Receive, Send, Migrate, Wrap, Unwrap, Audit, Compare, Chain}
+use Rattle.command_line.specs.declared.command.Command.TheVariants.{Replay, Format, Show, Exercise, Race, Serve, Receive, Send, Append, Migrate, Wrap, Unwrap, Messages, Status, Audit, Compare, Chain}
 
 -- a session of a table
 abbrev pub IsSession : List ℕ → ℕ → Type 0
@@ -23,9 +23,12 @@ IsCommand (Race seed count times) = (seed < 2 ^ 32) × (1 ≤ count) × (count �
 IsCommand (Serve table session looks) = IsLooking table session looks
 IsCommand (Receive table session looks) = IsLooking table session looks
 IsCommand (Send table session looks) = IsLooking table session looks
+IsCommand (Append table session looks) = IsLooking table session looks
 IsCommand (Migrate table session new_table new_session) = IsSession table session × IsSession new_table new_session
 IsCommand (Wrap table session) = IsSession table session
 IsCommand (Unwrap table session) = IsSession table session
+IsCommand (Messages table session from) = IsSession table session × (from < 2 ^ 32)
+IsCommand (Status table session) = IsSession table session
 IsCommand Audit = Unit {0}
 IsCommand Compare = Unit {0}
 IsCommand Chain = Unit {0}
@@ -40,9 +43,12 @@ words_of (Race seed count times) = codes "race" ∷ decimal seed ∷ decimal cou
 words_of (Serve table session looks) = codes "serve" ∷ table ∷ decimal session ∷ decimal looks ∷ []
 words_of (Receive table session looks) = codes "receive" ∷ table ∷ decimal session ∷ decimal looks ∷ []
 words_of (Send table session looks) = codes "send" ∷ table ∷ decimal session ∷ decimal looks ∷ []
+words_of (Append table session looks) = codes "append" ∷ table ∷ decimal session ∷ decimal looks ∷ []
 words_of (Migrate table session new_table new_session) = codes "migrate" ∷ table ∷ decimal session ∷ new_table ∷ decimal new_session ∷ []
 words_of (Wrap table session) = codes "wrap" ∷ table ∷ decimal session ∷ []
 words_of (Unwrap table session) = codes "unwrap" ∷ table ∷ decimal session ∷ []
+words_of (Messages table session from) = codes "messages" ∷ table ∷ decimal session ∷ decimal from ∷ []
+words_of (Status table session) = codes "status" ∷ table ∷ decimal session ∷ []
 words_of Audit = codes "audit" ∷ []
 words_of Compare = codes "compare" ∷ []
 words_of Chain = codes "chain" ∷ []

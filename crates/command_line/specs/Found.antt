@@ -5,7 +5,7 @@ use Rattle.clap.specs.Simple.{subcommand_rows_of}
 use Rattle.clap.specs.declared.parser.matches.ArgMatches.{ArgMatches}
 use Rattle.command_line.specs.TimeLists.{times_word}
 use Rattle.command_line.specs.declared.command.Command.{Command}
-use Rattle.command_line.specs.declared.command.Command.TheVariants.{Replay, Format, Show, Exercise, Race, Serve, Receive, Send, Migrate, Wrap, Unwrap, Audit, Compare, Chain}
+use Rattle.command_line.specs.declared.command.Command.TheVariants.{Replay, Format, Show, Exercise, Race, Serve, Receive, Send, Append, Migrate, Wrap, Unwrap, Messages, Status, Audit, Compare, Chain}
 
 -- the values that were found are this session of the table
 abbrev pub GivesSession : List ℕ → ℕ → List Row → Type 0
@@ -19,6 +19,10 @@ GivesNewSession table session rows = (first_of (codes "NEWTABLE") rows ≡ Some 
 abbrev pub GivesLooks : List ℕ → ℕ → ℕ → List Row → Type 0
 GivesLooks table session looks rows = (first_of (codes "TABLE") rows ≡ Some table) × (first_of (codes "S") rows ≡ Some (decimal session)) × (first_of (codes "LOOKS") rows ≡ Some (decimal looks))
 
+-- .. this session of the table and this number of a message
+abbrev pub GivesFrom : List ℕ → ℕ → ℕ → List Row → Type 0
+GivesFrom table session from rows = (first_of (codes "TABLE") rows ≡ Some table) × (first_of (codes "S") rows ≡ Some (decimal session)) × (first_of (codes "FROM") rows ≡ Some (decimal from))
+
 -- the name and the values that were found are those of this command
 abbrev pub Gives : Command → List ℕ → List Row → Type 0
 Gives Replay name rows = name ≡ codes "replay"
@@ -30,9 +34,12 @@ Gives (Race seed count times) name rows = (name ≡ codes "race") × (first_of (
 Gives (Serve table session looks) name rows = (name ≡ codes "serve") × GivesLooks table session looks rows
 Gives (Receive table session looks) name rows = (name ≡ codes "receive") × GivesLooks table session looks rows
 Gives (Send table session looks) name rows = (name ≡ codes "send") × GivesLooks table session looks rows
+Gives (Append table session looks) name rows = (name ≡ codes "append") × GivesLooks table session looks rows
 Gives (Migrate table session new_table new_session) name rows = (name ≡ codes "migrate") × GivesSession table session rows × GivesNewSession new_table new_session rows
 Gives (Wrap table session) name rows = (name ≡ codes "wrap") × GivesSession table session rows
 Gives (Unwrap table session) name rows = (name ≡ codes "unwrap") × GivesSession table session rows
+Gives (Messages table session from) name rows = (name ≡ codes "messages") × GivesFrom table session from rows
+Gives (Status table session) name rows = (name ≡ codes "status") × GivesSession table session rows
 Gives Audit name rows = name ≡ codes "audit"
 Gives Compare name rows = name ≡ codes "compare"
 Gives Chain name rows = name ≡ codes "chain"

@@ -48,18 +48,21 @@ with_scripts above =
 -- with the commands of a relay and its disks
 abbrev pub with_relays : App → App
 with_relays above =
-    with_subcommand (with_subcommand (with_subcommand (with_subcommand above
+    with_subcommand (with_subcommand (with_subcommand (with_subcommand (with_subcommand above
     (leaf_three (codes "serve") (codes "TABLE") (codes "S") (codes "LOOKS")).top)
     (leaf_three (codes "receive") (codes "TABLE") (codes "S") (codes "LOOKS")).top)
     (leaf_three (codes "send") (codes "TABLE") (codes "S") (codes "LOOKS")).top)
+    (leaf_three (codes "append") (codes "TABLE") (codes "S") (codes "LOOKS")).top)
     (leaf_four (codes "migrate") (codes "TABLE") (codes "S") (codes "NEWTABLE") (codes "T")).top
 
--- with the commands over files, records and chains
+-- with the commands over files, what a receiver has, records and chains
 abbrev pub with_files : App → App
 with_files above =
-    with_subcommand (with_subcommand (with_subcommand (with_subcommand (with_subcommand above
+    with_subcommand (with_subcommand (with_subcommand (with_subcommand (with_subcommand (with_subcommand (with_subcommand above
     (leaf_two (codes "wrap") (codes "TABLE") (codes "S")).top)
     (leaf_two (codes "unwrap") (codes "TABLE") (codes "S")).top)
+    (leaf_three (codes "messages") (codes "TABLE") (codes "S") (codes "FROM")).top)
+    (leaf_two (codes "status") (codes "TABLE") (codes "S")).top)
     (leaf_none (codes "audit")).top)
     (leaf_none (codes "compare")).top)
     (leaf_none (codes "chain")).top

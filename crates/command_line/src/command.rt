@@ -65,6 +65,16 @@ pub enum Command {
         /// How many looks at the link an answer is waited for at most, at least 1.
         looks: u32,
     },
+    /// Sends the messages of a stream to a session of the table over TCP, and connects again where a
+    /// connection breaks.
+    Append {
+        /// The file with the table.
+        table: TableName,
+        /// The id of its row.
+        session: u32,
+        /// How many looks at links and attempts to connect are made at most, at least 1.
+        looks: u32,
+    },
     /// Writes a session of the table on the empty disks of another one, which may be of another table.
     Migrate {
         /// The file with the table.
@@ -85,6 +95,23 @@ pub enum Command {
     },
     /// Writes the file that the messages with the receiver of a session of the table are.
     Unwrap {
+        /// The file with the table.
+        table: TableName,
+        /// The id of its row.
+        session: u32,
+    },
+    /// Prints the messages with the receiver of a session of the table, from a number on.
+    Messages {
+        /// The file with the table.
+        table: TableName,
+        /// The id of its row.
+        session: u32,
+        /// The number of the first message that is printed.
+        from: u32,
+    },
+    /// Tells how many messages a session of the table has accepted, removed and received, and how full its
+    /// relay is.
+    Status {
         /// The file with the table.
         table: TableName,
         /// The id of its row.

@@ -10,7 +10,7 @@ use clap::{Arg, Command as Program};
 use std::alloc::{AllocError, Global};
 
 /// The commands by name, each with its values.
-const COMMANDS: [(&str, &[&str]); 14] = [
+const COMMANDS: [(&str, &[&str]); 17] = [
     ("replay", &[]),
     ("format", &["TABLE", "S"]),
     ("show", &["TABLE", "S"]),
@@ -19,9 +19,12 @@ const COMMANDS: [(&str, &[&str]); 14] = [
     ("serve", &["TABLE", "S", "LOOKS"]),
     ("receive", &["TABLE", "S", "LOOKS"]),
     ("send", &["TABLE", "S", "LOOKS"]),
+    ("append", &["TABLE", "S", "LOOKS"]),
     ("migrate", &["TABLE", "S", "NEWTABLE", "T"]),
     ("wrap", &["TABLE", "S"]),
     ("unwrap", &["TABLE", "S"]),
+    ("messages", &["TABLE", "S", "FROM"]),
+    ("status", &["TABLE", "S"]),
     ("audit", &[]),
     ("compare", &[]),
     ("chain", &[]),

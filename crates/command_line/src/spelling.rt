@@ -106,9 +106,9 @@ fn name_session(words: &[String], name: &str, table: &TableName, session: u32) -
     are_three(words, name, table.as_str(), number.format(session))
 }
 
-/// Are they one that has a number of looks behind it?
-fn name_looks(words: &[String], name: &str, table: &TableName, session: u32, looks: u32) -> bool
-    ensures { IsTrue result ↔ (map string_bytes words.now ≡ name.now ∷ table.now ∷ decimal session ∷ decimal looks ∷ []) }
+/// Are they one that has a number behind it?
+fn name_number(words: &[String], name: &str, table: &TableName, session: u32, number: u32) -> bool
+    ensures { IsTrue result ↔ (map string_bytes words.now ≡ name.now ∷ table.now ∷ decimal session ∷ decimal number ∷ []) }
 {
     let mut one = itoa::Buffer::new();
     let mut two = itoa::Buffer::new();
@@ -117,7 +117,7 @@ fn name_looks(words: &[String], name: &str, table: &TableName, session: u32, loo
         name,
         table.as_str(),
         one.format(session),
-        two.format(looks),
+        two.format(number),
     )
 }
 
@@ -137,21 +137,32 @@ pub(crate) fn is_spelled(command: &Command, words: &[String]) -> bool
         Command::Show { table, session } => name_session(words, "show", table, *session),
         Command::Wrap { table, session } => name_session(words, "wrap", table, *session),
         Command::Unwrap { table, session } => name_session(words, "unwrap", table, *session),
+        Command::Status { table, session } => name_session(words, "status", table, *session),
+        Command::Messages {
+            table,
+            session,
+            from,
+        } => name_number(words, "messages", table, *session, *from),
         Command::Serve {
             table,
             session,
             looks,
-        } => name_looks(words, "serve", table, *session, *looks),
+        } => name_number(words, "serve", table, *session, *looks),
         Command::Receive {
             table,
             session,
             looks,
-        } => name_looks(words, "receive", table, *session, *looks),
+        } => name_number(words, "receive", table, *session, *looks),
         Command::Send {
             table,
             session,
             looks,
-        } => name_looks(words, "send", table, *session, *looks),
+        } => name_number(words, "send", table, *session, *looks),
+        Command::Append {
+            table,
+            session,
+            looks,
+        } => name_number(words, "append", table, *session, *looks),
         Command::Exercise { seed, count } => are_three(
             words,
             "exercise",

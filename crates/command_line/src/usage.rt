@@ -8,9 +8,12 @@ pub const USAGE: &str = "type one of these after the program's name:
   serve TABLE S LOOKS         relays session S over the two ports of its row, both on 127.0.0.1, and prints a record of Low's side; each side makes LOOKS rounds
   receive TABLE S LOOKS       takes the messages of session S from its relay, and prints a line for each; it ends after LOOKS looks at the link
   send TABLE S LOOKS          sends the messages on standard input, a line of hexadecimal digits each, to the relay of session S, and prints a line for each that is stored; it waits LOOKS looks at most for an answer
+  append TABLE S LOOKS        sends each line on standard input as a new message of session S, connects again where a connection breaks, and at its end prints how many lines are stored; LOOKS is how many looks and attempts to connect it makes at most
   migrate TABLE S NEWTABLE T  writes what session S has on the three empty disks of session T, which has a row in the file NEWTABLE, and changes none of its own
   wrap TABLE S                sends the file on standard input over the pump of session S until its receiver has all of it, as in: netpump wrap TABLE S < FILE
   unwrap TABLE S              writes the file that the messages with the receiver of session S are, and nothing else
+  messages TABLE S FROM       prints a line for each message that the receiver of session S has, from number FROM on, where 0 is the first; it may run beside the receiver
+  status TABLE S              prints how many messages session S has accepted, removed and received, how many lie in its relay, and how many may; it may run beside the relay
   audit                       checks the record on standard input, and prints that it is clean, or the first line that is wrong and its cause, as in: netpump audit < RECORD
   compare                     compares Low's side of two records on standard input, with a line '# compare' between them, and prints that they agree, or the first item that differs
   chain                       reads a script of two sessions from standard input, of which the second one sends on what the receiver of the first one has, and prints its transcript, as in: netpump chain < SCRIPT

@@ -90,6 +90,23 @@ fn looks_in(matches: &ArgMatches) -> Option<(TableName, u32, u32)>
     Some((table, session, looks))
 }
 
+/// A session of a table, and the number of a message.
+fn messages_in(matches: &ArgMatches) -> Option<Command>
+    ensures sound { IfSome result IsCommand }
+    ensures all { (t : List ℕ) (n k : ℕ) → is_table_name t ≡ true → n < 2 ^ 32 → k < 2 ^ 32
+        → first_of (codes "TABLE") (rows_of (found_of matches.now)) ≡ Some t → first_of (codes "S") (rows_of (found_of matches.now)) ≡ Some (decimal n)
+        → first_of (codes "FROM") (rows_of (found_of matches.now)) ≡ Some (decimal k)
+        → result ≡ Some (Command.Messages t n k) }
+{
+    let (table, session) = session_in(matches)?;
+    let from = number_in(matches, "FROM", 0, u32::MAX)?;
+    Some(Command::Messages {
+        table,
+        session,
+        from,
+    })
+}
+
 fn exercise_in(matches: &ArgMatches) -> Option<Command>
     ensures sound { IfSome result IsCommand }
     ensures all { (m n : ℕ) → m < 2 ^ 32 → 1 ≤ n → n ≤ 100000
@@ -164,9 +181,16 @@ pub(crate) fn with_values(name: &str, matches: &ArgMatches) -> Option<Command>
             session,
             looks,
         }),
+        "append" => looks_in(matches).map(|(table, session, looks)| Command::Append {
+            table,
+            session,
+            looks,
+        }),
         "migrate" => migrate_in(matches),
         "wrap" => session_in(matches).map(|(table, session)| Command::Wrap { table, session }),
         "unwrap" => session_in(matches).map(|(table, session)| Command::Unwrap { table, session }),
+        "messages" => messages_in(matches),
+        "status" => session_in(matches).map(|(table, session)| Command::Status { table, session }),
         _ => None,
     }
 }

@@ -1,10 +1,11 @@
 -- How a command that closes with these bytes ends, and the disk that its end names.
-use Rattle.std.proofs.Common.{◌≡◌, ℕ, List, Option, inl, inr, refl, sym, ◌∙◌, subst}
+use Rattle.std.proofs.Common.{◌≡◌, ◌≤◌, ℕ, List, Option, inl, inr, refl, sym, ◌∙◌, subst, arith}
 use Rattle.std.specs.Io.KnownBytes.{Appends}
 use Rattle.disk_model.specs.declared.name.Role.{Role}
-use Rattle.commands.specs.CommandEnds.{EndsSo, ClosesSo, NamesFailed}
+use Rattle.pump_frame.specs.Counts.{Rose}
+use Rattle.commands.specs.CommandEnds.{EndsSo, ClosesSo, NamesFailed, end_status}
 use Rattle.commands.specs.declared.command_end.CommandEnd.{CommandEnd}
-use Rattle.commands.specs.declared.command_end.CommandEnd.TheVariants.{Failed, Unwritten}
+use Rattle.commands.specs.declared.command_end.CommandEnd.TheVariants.{Done, Unread, Failed, Unwritten}
 
 module _ (Writes : CommandEnd → List ℕ → Type 0) (never : (output : List ℕ) → Writes Unwritten output → ⊥) (old new : Option (List ℕ)) where
   written_so : (end : CommandEnd) (bytes : List ℕ) → Writes end bytes → Appends old new bytes → EndsSo Writes old new end
@@ -24,3 +25,22 @@ closed_end old new before now bytes end result role (inr h) is = let other = h.0
 pub names_failed : (fails : ℕ → Role → Type 0) (session : ℕ) (end : CommandEnd) → ((role : Role) → end ≡ Failed role → fails session role) → NamesFailed fails session end
 names_failed fails session (Failed role) names = names role refl
 names_failed fails session end names = tt
+
+-- ---- a command that was done, or whose output failed ----
+
+module _ (old new : Option (List ℕ)) (before now : ℕ) (bytes : List ℕ) (result : CommandEnd) where
+  pub done_not_failed : (role : Role) → ClosesSo old new before now bytes Done result → result ≡ Failed role → ⊥
+  done_not_failed role (inl h) is = let done = h.0 in cc (sym done ∙ is)
+  done_not_failed role (inr h) is = let other = h.0 in cc (sym other ∙ is)
+
+  pub done_not_unread : ClosesSo old new before now bytes Done result → result ≡ Unread → ⊥
+  done_not_unread (inl h) is = let done = h.0 in cc (sym done ∙ is)
+  done_not_unread (inr h) is = let other = h.0 in cc (sym other ∙ is)
+
+  pub done_unwritten : ClosesSo old new before now bytes Done result → result ≡ Unwritten → Rose before now
+  done_unwritten (inl h) is = let done = h.0 in cc (sym done ∙ is)
+  done_unwritten (inr h) is = h.2
+
+  pub done_status : ClosesSo old new before now bytes Done result → end_status result ≤ 8
+  done_status (inl h) = subst (λ (e : CommandEnd). end_status e ≤ 8) (sym h.0) (omega arith)
+  done_status (inr h) = subst (λ (e : CommandEnd). end_status e ≤ 8) (sym h.0) (omega arith)

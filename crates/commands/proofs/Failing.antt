@@ -49,7 +49,7 @@ untaken_names m d old new session at shelf.Failed end memory failed rose asked r
     (rose refl, inl (subst (λ (r : Role). IsNotGiven m (m.disk old) session r) same (asked refl)))
 
 -- .. of a session that nothing was done with before, and behind which those of the first one were put back
-rose_within : (old mid answered last : ℕ) → old ≤ mid → answered ≤ last → Rose mid answered → Rose old last
+pub rose_within : (old mid answered last : ℕ) → old ≤ mid → answered ≤ last → Rose mid answered → Rose old last
 rose_within old mid answered last before behind rose = omega (arith, before, behind, rose)
 
 pub second_untaken_names : {S D : Type 0} (m : Holdings S) (d : Meaning D) (old mid answered last : S) (one two : ℕ) (at : Role) (fault : ShelfFault) (end : CommandEnd)

@@ -5,7 +5,10 @@ pub mod LentDisks
 pub mod Migrated
 pub mod MovedDisks
 pub mod MovedFound
+pub mod Printed
+pub mod ReadFiles
 pub mod Shown
 pub mod TableRows
+pub mod Told
 pub mod Unwrapped
 pub mod Wrapped

@@ -68,8 +68,8 @@ impl CommandEnd {
 }
 
 /// Puts a text behind what is there.
-pub fn put(into: &mut ArrayVec<u8, 256>, text: &[u8])
-    requires { array_vec_len into.old + length text.now ≤ 256 }
+pub fn put<const N: usize>(into: &mut ArrayVec<u8, N>, text: &[u8])
+    requires { array_vec_len into.old + length text.now ≤ N }
     ensures items { into.new.items ≡ into.old.items ++ text.now }
     ensures len { array_vec_len into.new ≡ array_vec_len into.old + length text.now }
 {
@@ -77,8 +77,8 @@ pub fn put(into: &mut ArrayVec<u8, 256>, text: &[u8])
 }
 
 /// Puts a space and a number behind what is there.
-pub fn put_number(into: &mut ArrayVec<u8, 256>, number: u64)
-    requires { array_vec_len into.old ≤ 200 }
+pub fn put_number<const N: usize>(into: &mut ArrayVec<u8, N>, number: u64)
+    requires { array_vec_len into.old + 21 ≤ N }
     ensures items { into.new.items ≡ into.old.items ++ 32 ∷ decimal number }
     ensures len { array_vec_len into.new ≤ array_vec_len into.old + 21 }
 {

@@ -16,7 +16,8 @@ use std::alloc::Global;
 /// The most bytes that a table's file may have.
 const MOST: usize = 65_536;
 
-fn zeros(alloc: Global, size: usize) -> Option<Vec<u8>>
+/// A room of zeros.
+pub fn zeros(alloc: Global, size: usize) -> Option<Vec<u8>>
     ensures { IfSome result (λ room. length room.items ≡ size) }
 {
     vec![in alloc; 0; size].ok()

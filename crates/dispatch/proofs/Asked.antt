@@ -4,16 +4,20 @@ use Rattle.std.specs.Io.KnownBytes.{Appends}
 use Rattle.arrayvec.specs.ArrayVec.{ArrayVec}
 use Rattle.command_line.specs.Commands.{AreWordsOf}
 use Rattle.command_line.specs.declared.command.Command.{Command}
-use Rattle.command_line.specs.declared.command.Command.TheVariants.{Replay, Format, Show, Exercise, Race, Serve, Receive, Send, Migrate, Wrap, Unwrap, Audit, Compare, Chain}
+use Rattle.command_line.specs.declared.command.Command.TheVariants.{Replay, Format, Show, Exercise, Race, Serve, Receive, Send, Append, Migrate, Wrap, Unwrap, Messages, Status, Audit, Compare, Chain}
 use Rattle.command_line.specs.declared.command.WordsFault.{WordsFault}
 use Rattle.command_line.specs.declared.command.WordsFault.TheVariants.{NoCommand, Memory}
 use Rattle.disk_model.specs.declared.name.Role.{Role}
+use Rattle.disk_model.specs.declared.name.Role.TheVariants.{Recv}
 use Rattle.commands.specs.CommandEnds.{EndsSo, EndsWithStatus, end_status}
-use Rattle.dispatch.specs.Commands.{IsNoCommand, IsNoLiveCommand, IsWrap, ReadsScript, is_live}
+use Rattle.dispatch.specs.Commands.{IsNoCommand, IsNoLiveCommand, IsBeside, IsWrap, ReadsScript, is_live}
 use Rattle.exercises.specs.Exercises.{EndsExercise}
 use Rattle.commands.specs.Formatting.{Formats}
+use Rattle.commands.specs.Messages.{PrintsMessages}
 use Rattle.commands.specs.Migrating.{Migrates}
+use Rattle.commands.specs.ReadDisks.{disk_file}
 use Rattle.commands.specs.Showing.{Shows}
+use Rattle.commands.specs.Telling.{TellsStatus}
 use Rattle.commands.specs.Unwrapping.{EndsUnwrap, Unwraps, unwrap_status}
 use Rattle.commands.specs.declared.unwrap.UnwrapEnd.{UnwrapEnd}
 use Rattle.commands.specs.declared.unwrap.UnwrapEnd.TheVariants.{Stopped}
@@ -129,6 +133,45 @@ wraps_asked faults now_faults file before after fails left now_left old new t u 
 pub wraps_nothing : (faults : ℕ) (file : Option (List ℕ)) (places : Places) (fails : ℕ → Role → Type 0) (left old new : Option (List ℕ)) (session : ℕ) → Appends old new [] → EndsWrap faults faults file places places fails session left left old new 1
 wraps_nothing faults file places fails left old new session a = (SentStop ends.Memory, refl, ((inl (ends.Memory, (tt, λ e. cc), refl, refl), nothing_given left, tt), a))
 
+printed_table_is : (t u : List ℕ) (n m k l : ℕ) → Messages t n k ≡ Messages u m l → t ≡ u
+printed_table_is t u n m k l e = cc
+
+printed_session_is : (t u : List ℕ) (n m k l : ℕ) → Messages t n k ≡ Messages u m l → n ≡ m
+printed_session_is t u n m k l e = cc
+
+printed_from_is : (t u : List ℕ) (n m k l : ℕ) → Messages t n k ≡ Messages u m l → k ≡ l
+printed_from_is t u n m k l e = cc
+
+pub messages_asked : (file : List ℕ → Option (List ℕ)) (old new : Option (List ℕ)) (t u : List ℕ) (n m k l : ℕ) (end : CommandEnd) (status : ℕ)
+    → EndsSo (PrintsMessages (file t) (disk_file file n Recv) n k) old new end → status ≡ end_status end → (b : Command) → b ≡ Messages t n k → b ≡ Messages u m l
+    → EndsWithStatus (PrintsMessages (file u) (disk_file file m Recv) m l) old new status
+messages_asked file old new t u n m k l end status ends is b one other =
+    let same = sym one ∙ other in (
+      end,
+      sym is,
+      subst (λ (p : List ℕ × ℕ × ℕ). EndsSo (PrintsMessages (file p.0) (disk_file file p.1 Recv) p.1 p.2) old new end)
+          (λ i. (printed_table_is t u n m k l same i, printed_session_is t u n m k l same i, printed_from_is t u n m k l same i)) ends,
+    )
+
+pub messages_nothing : (table file old new : Option (List ℕ)) (session from : ℕ) → Appends old new [] → EndsWithStatus (PrintsMessages table file session from) old new 1
+messages_nothing table file old new session from a = (ends.Memory, refl, ([], refl, a))
+
+told_table_is : (t u : List ℕ) (n m : ℕ) → Status t n ≡ Status u m → t ≡ u
+told_table_is t u n m e = cc
+
+told_session_is : (t u : List ℕ) (n m : ℕ) → Status t n ≡ Status u m → n ≡ m
+told_session_is t u n m e = cc
+
+pub tells_asked : (file : List ℕ → Option (List ℕ)) (unread : Type 0) (old new : Option (List ℕ)) (t u : List ℕ) (n m : ℕ) (end : CommandEnd) (status : ℕ)
+    → EndsSo (TellsStatus (file t) (disk_file file n) unread n) old new end → status ≡ end_status end → (b : Command) → b ≡ Status t n → b ≡ Status u m
+    → EndsWithStatus (TellsStatus (file u) (disk_file file m) unread m) old new status
+tells_asked file unread old new t u n m end status ends is b one other =
+    let same = sym one ∙ other in
+    (end, sym is, subst (λ (p : List ℕ × ℕ). EndsSo (TellsStatus (file p.0) (disk_file file p.1) unread p.1) old new end) (λ i. (told_table_is t u n m same i, told_session_is t u n m same i)) ends)
+
+pub tells_nothing : (table : Option (List ℕ)) (files : Role → Option (List ℕ)) (unread : Type 0) (old new : Option (List ℕ)) (session : ℕ) → Appends old new [] → EndsWithStatus (TellsStatus table files unread session) old new 1
+tells_nothing table files unread old new session a = (ends.Memory, refl, ([], refl, a))
+
 seed_is : (a b n m : ℕ) → Exercise a n ≡ Exercise b m → a ≡ b
 seed_is a b n m e = cc
 
@@ -184,6 +227,15 @@ send_session t u n m k l e = cc
 send_looks : (t u : List ℕ) (n m k l : ℕ) → Send t n k ≡ Send u m l → k ≡ l
 send_looks t u n m k l e = cc
 
+append_table : (t u : List ℕ) (n m k l : ℕ) → Append t n k ≡ Append u m l → t ≡ u
+append_table t u n m k l e = cc
+
+append_session : (t u : List ℕ) (n m k l : ℕ) → Append t n k ≡ Append u m l → n ≡ m
+append_session t u n m k l e = cc
+
+append_looks : (t u : List ℕ) (n m k l : ℕ) → Append t n k ≡ Append u m l → k ≡ l
+append_looks t u n m k l e = cc
+
 -- what holds of the session of the table, and of the looks, that the call was for holds of those that were asked
 module _ (End : List ℕ → ℕ → ℕ → Type 0) (t u : List ℕ) (n m k l : ℕ) (ends : End t n k) (c : Command) where
   pub serve_asked : c ≡ Serve t n k → c ≡ Serve u m l → End u m l
@@ -200,6 +252,11 @@ module _ (End : List ℕ → ℕ → ℕ → Type 0) (t u : List ℕ) (n m k l :
   send_asked one other =
       let same = sym one ∙ other in
       subst (λ (x : List ℕ × ℕ × ℕ). End x.0 x.1 x.2) (λ i. (send_table t u n m k l same i, send_session t u n m k l same i, send_looks t u n m k l same i)) ends
+
+  pub append_asked : c ≡ Append t n k → c ≡ Append u m l → End u m l
+  append_asked one other =
+      let same = sym one ∙ other in
+      subst (λ (x : List ℕ × ℕ × ℕ). End x.0 x.1 x.2) (λ i. (append_table t u n m k l same i, append_session t u n m k l same i, append_looks t u n m k l same i)) ends
 
 -- the words as the slice that is read
 pub read_words : (words slice : List (String Global)) (c : Command) → slice ≡ words → AreWordsOf (map string_bytes words) c → AreWordsOf (map string_bytes slice) c
@@ -248,6 +305,9 @@ kind (Unwrap table session) = 10
 kind Audit = 11
 kind Compare = 12
 kind Chain = 13
+kind (Messages table session from) = 14
+kind (Status table session) = 15
+kind (Append table session looks) = 16
 
 -- the commands that read the script
 abbrev pub is_script : Command → Bool
@@ -272,6 +332,11 @@ other words call a c differ h = is_not (kind call) (kind c) (kind call) differ r
 pub not_wrap : (words : List (List ℕ)) (call : Command) → Asks words call → nat_eq (kind call) 9 ≡ false → IsWrap words → ⊥
 not_wrap words call a differ (table, session, h) = other words call a (Wrap table session) differ h
 
+-- the words are of no command beside a relay
+pub not_beside : (words : List (List ℕ)) (call : Command) → Asks words call → nat_eq (kind call) 14 ≡ false → nat_eq (kind call) 15 ≡ false → IsBeside words → ⊥
+not_beside words call a differ apart (inl (table, session, from, h)) = other words call a (Messages table session from) differ h
+not_beside words call a differ apart (inr (table, session, h)) = other words call a (Status table session) apart h
+
 unread : (call c : Command) → is_script call ≡ false → is_script c ≡ true → call ≡ c → ⊥
 unread call c differ reads same =
     let e : is_script call ≡ is_script c = ap is_script same in
@@ -288,6 +353,10 @@ not_script words call a differ (inr (inr (inr h))) = unread call Compare differ 
 pub never_wrap : (words : List (List ℕ)) → IsNoCommand words → IsWrap words → ⊥
 never_wrap words none (table, session, h) = none (Wrap table session) refl h
 
+pub never_beside : (words : List (List ℕ)) → IsNoCommand words → IsBeside words → ⊥
+never_beside words none (inl (table, session, from, h)) = none (Messages table session from) refl h
+never_beside words none (inr (table, session, h)) = none (Status table session) refl h
+
 pub never_script : (words : List (List ℕ)) → IsNoCommand words → ReadsScript words → ⊥
 never_script words none (inl h) = none Replay refl (tt, h)
 never_script words none (inr (inl h)) = none Chain refl (tt, h)
@@ -299,15 +368,32 @@ abbrev pub IsLiveOne : Command → Type 0
 IsLiveOne b = ((seed count : ℕ) × (times : ArrayVec ℕ) × (b ≡ Race seed count times))
     ⊎ (((table : List ℕ) × (session looks : ℕ) × (b ≡ Serve table session looks))
     ⊎ (((table : List ℕ) × (session looks : ℕ) × (b ≡ Receive table session looks))
-    ⊎ ((table : List ℕ) × (session looks : ℕ) × (b ≡ Send table session looks))))
+    ⊎ (((table : List ℕ) × (session looks : ℕ) × (b ≡ Send table session looks))
+    ⊎ ((table : List ℕ) × (session looks : ℕ) × (b ≡ Append table session looks)))))
 
 pub live_one : (b : Command) → IsLiveOne b → is_live b ≡ true
 live_one b (inl (seed, count, times, e)) = ap is_live e
 live_one b (inr (inl (table, session, looks, e))) = ap is_live e
 live_one b (inr (inr (inl (table, session, looks, e)))) = ap is_live e
-live_one b (inr (inr (inr (table, session, looks, e)))) = ap is_live e
+live_one b (inr (inr (inr (inl (table, session, looks, e))))) = ap is_live e
+live_one b (inr (inr (inr (inr (table, session, looks, e))))) = ap is_live e
 
 pub live_alone : (words : List (List ℕ)) (call : Command) → is_live call ≡ true → Asks words call → IsNoCommand words
 live_alone words call live a c still h =
     let e : is_live call ≡ is_live c = ap is_live (a.only c h) in
     cc
+
+-- a command that is none of `live`
+pub not_live : (b : Command) → ((seed count : ℕ) (times : ArrayVec ℕ) → b ≡ Race seed count times → ⊥)
+    → ((table : List ℕ) (session looks : ℕ) → b ≡ Serve table session looks → ⊥) → ((table : List ℕ) (session looks : ℕ) → b ≡ Receive table session looks → ⊥)
+    → ((table : List ℕ) (session looks : ℕ) → b ≡ Send table session looks → ⊥) → ((table : List ℕ) (session looks : ℕ) → b ≡ Append table session looks → ⊥)
+    → (d : Command) → is_live d ≡ true → b ≡ d → ⊥
+not_live b race serve receive send append (Race seed count times) live e = race seed count times e
+not_live b race serve receive send append (Serve table session looks) live e = serve table session looks e
+not_live b race serve receive send append (Receive table session looks) live e = receive table session looks e
+not_live b race serve receive send append (Send table session looks) live e = send table session looks e
+not_live b race serve receive send append (Append table session looks) live e = append table session looks e
+not_live b race serve receive send append d live e = cc
+
+pub batch_alone : (words : List (List ℕ)) (call : Command) → ((d : Command) → is_live d ≡ true → call ≡ d → ⊥) → Asks words call → IsNoLiveCommand words
+batch_alone words call none a d live h = none d live (a.only d h)

@@ -1,15 +1,15 @@
 -- How a race ends, from what was written of its record.
 use Rattle.std.proofs.Common.{◌≡◌, ℕ, Bool, true, false, List, Option, inl, inr, refl, arith}
-use Rattle.pump_frame.specs.Counts.{Rose}
 use Rattle.pump_link.specs.Tells.{Draws}
 use Rattle.race.specs.Race.{IsRaceRecord}
 use Rattle.race.specs.Tape.{Written}
+use Rattle.race.specs.Turns.{CountsStop}
 use Rattle.dispatch.specs.Racing.{IsRecordOf, EndsRace}
 
 -- a gate that never stops a worker has not stopped it
-pub never_stopped : (stopped : Bool) → (stopped ≡ true → Rose 0 0) → stopped ≡ false
-never_stopped true rose = absurd (omega (arith, rose refl))
-never_stopped false rose = refl
+pub never_stopped : (stopped : Bool) → CountsStop stopped 0 0 → stopped ≡ false
+never_stopped true rose = absurd (omega (arith, rose))
+never_stopped false same = refl
 
 -- the record of readings of the clock, with what was written of it
 abbrev pub WroteRecord : ℕ → ℕ → List ℕ → (List ℕ → Type 0) → (List ℕ → Type 0) → Option (List ℕ) → Option (List ℕ) → ℕ → ℕ → Bool → Type 0

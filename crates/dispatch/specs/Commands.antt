@@ -3,7 +3,7 @@ use Rattle.std.specs.Prelude.{◌≡◌, ◌⊎◌, ℕ, Bool, true, false, List
 use Rattle.std.specs.Io.KnownBytes.{Appends}
 use Rattle.command_line.specs.Commands.{AreWordsOf}
 use Rattle.command_line.specs.declared.command.Command.{Command}
-use Rattle.command_line.specs.declared.command.Command.TheVariants.{Race, Serve, Receive, Send, Wrap}
+use Rattle.command_line.specs.declared.command.Command.TheVariants.{Race, Serve, Receive, Send, Append, Wrap, Messages, Status}
 use Rattle.pump_link.specs.Causes.{AppendsFront}
 use Rattle.script_reader.specs.Transcript.{fault_line}
 use Rattle.script_reader.specs.declared.fault.Fault.TheVariants as faults
@@ -31,12 +31,17 @@ ReadsScript words = IsReplay words ⊎ (IsChain words ⊎ (IsAudit words ⊎ IsC
 abbrev pub IsWrap : List (List ℕ) → Type 0
 IsWrap words = (table : List ℕ) × (session : ℕ) × AreWordsOf words (Wrap table session)
 
+-- .. of a command that reads the files of a session's disks beside a relay
+abbrev pub IsBeside : List (List ℕ) → Type 0
+IsBeside words = ((table : List ℕ) × (session : ℕ) × (from : ℕ) × AreWordsOf words (Messages table session from)) ⊎ ((table : List ℕ) × (session : ℕ) × AreWordsOf words (Status table session))
+
 -- a command with threads or over a socket is for `live`, every other one for `batch`
 abbrev pub is_live : Command → Bool
 is_live (Race seed count times) = true
 is_live (Serve table session looks) = true
 is_live (Receive table session looks) = true
 is_live (Send table session looks) = true
+is_live (Append table session looks) = true
 is_live _ = false
 
 -- the words are no command that `batch` runs
@@ -57,12 +62,19 @@ IsReceive words = (table : List ℕ) × (session : ℕ) × (looks : ℕ) × AreW
 abbrev pub IsSend : List (List ℕ) → Type 0
 IsSend words = (table : List ℕ) × (session : ℕ) × (looks : ℕ) × AreWordsOf words (Send table session looks)
 
+abbrev pub IsAppend : List (List ℕ) → Type 0
+IsAppend words = (table : List ℕ) × (session : ℕ) × (looks : ℕ) × AreWordsOf words (Append table session looks)
+
+-- .. of a sender of the script
+abbrev pub IsSender : List (List ℕ) → Type 0
+IsSender words = IsSend words ⊎ IsAppend words
+
 abbrev pub IsOverTable : List (List ℕ) → Type 0
-IsOverTable words = IsServe words ⊎ (IsReceive words ⊎ IsSend words)
+IsOverTable words = IsServe words ⊎ (IsReceive words ⊎ IsSender words)
 
 -- .. of one at the ports of the low side, and of the high side
 abbrev pub IsAtLow : List (List ℕ) → Type 0
-IsAtLow words = IsServe words ⊎ IsSend words
+IsAtLow words = IsServe words ⊎ IsSender words
 
 abbrev pub IsAtHigh : List (List ℕ) → Type 0
 IsAtHigh words = IsServe words ⊎ IsReceive words

@@ -1,3 +1,4 @@
+pub mod Appendings
 pub mod Chains
 pub mod Commands
 pub mod LiveEnds

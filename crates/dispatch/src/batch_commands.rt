@@ -12,23 +12,27 @@ ghost use Rattle.script_replay.specs.Replays.{IsFailed, Wrote};
 ghost use Rattle.script_replay.specs.Shelves.{AllAreBack, shelved};
 ghost use Rattle.script_replay.specs.Told.{TellsFault};
 ghost use Rattle.commands.specs.CommandEnds.{EndsWithStatus};
-ghost use Rattle.dispatch.specs.Commands.{is_live, IsNoCommand, IsReplay, IsChain, IsWrap, IsAudit, IsCompare, ReadsScript, TellsWords, RefusesWords};
+ghost use Rattle.dispatch.specs.Commands.{is_live, IsNoCommand, IsReplay, IsChain, IsWrap, IsAudit, IsBeside, IsCompare, ReadsScript, TellsWords, RefusesWords};
 ghost use Rattle.commands.specs.Auditing.{EndsAudit, EndsComparison};
 ghost use Rattle.exercises.specs.Exercises.{EndsExercise};
 ghost use Rattle.commands.specs.Formatting.{Formats};
 ghost use Rattle.commands.specs.LentDisks.{RecvFailsAt};
+ghost use Rattle.commands.specs.Messages.{PrintsMessages};
 ghost use Rattle.commands.specs.Migrating.{Migrates};
+ghost use Rattle.commands.specs.ReadDisks.{disk_file};
 ghost use Rattle.commands.specs.Showing.{Shows};
+ghost use Rattle.commands.specs.Telling.{TellsStatus};
 ghost use Rattle.commands.specs.Unwrapping.{EndsUnwrap};
 ghost use Rattle.commands.specs.Wrapping.{EndsWrap};
+ghost use Rattle.disk_model.specs.declared.name.Role.TheVariants.{Recv};
 ghost use Rattle.dispatch.specs.Chains.{EndsChainWith};
 
 use arrayvec::ArrayVec;
 use chain_replay::replay_chain;
 use command_line::{Command, WordsFault, command_of};
 use commands::{
-    audit_script, compare_script, format_session, migrate_session, show_session, unwrap_session,
-    wrap_session,
+    audit_script, compare_script, format_session, migrate_session, print_messages, show_session,
+    tell_status, unwrap_session, wrap_session,
 };
 use disk_model::Shelf;
 use exercises::exercise;
@@ -79,9 +83,9 @@ fn run_exercise<O: Sink>(alloc: Global, seed: u32, count: u32, out: &mut O) -> u
 /// - 5: a line is outside the grammar or can't be applied; the transcript of the lines before was
 ///   written.
 /// - 6: the file of a table gives no row for its session, or a session is to be moved to itself.
-/// - 7: the disk that the output names could not be taken off the shelf, or a call of it failed; or a line told
-///   that the device of a low side alone fails, in a store. The transcript of the lines before was
-///   written, and what this line printed.
+/// - 7: the disk that the output names could not be taken off the shelf, a call of it failed, or its file
+///   could not be read beside a relay; or a line told that the device of a low side alone fails, in a store.
+///   The transcript of the lines before was written, and what this line printed.
 /// - 8: the disks of a session are refused when they are opened, are not empty when they are to be
 ///   formatted or moved to, or can't take what is to be moved.
 /// - 10: a line's message does not fit on the receiver's disk; the same was written.
@@ -98,10 +102,10 @@ fn run_exercise<O: Sink>(alloc: Global, seed: u32, count: u32, out: &mut O) -> u
 /// `KeepLaws`) and what is read of the disks then (`Shelved`): those of each session stand for the world
 /// that it came to, and outlive this call with every message whose acknowledgement was printed, at each
 /// status but 1, at which a replay writes nothing (`EndedWith`). They say too what a format leaves
-/// (`Formats`), what is shown (`Shows`), what a move leaves (`Migrates`), and what an exercise writes
-/// (`EndsExercise`). `docs/formats.md`
-/// has the script, the table, the transcript, the disks and the last line at the statuses 2, 3, 5, 6, 7, 8
-/// and 10.
+/// (`Formats`), what is shown (`Shows`), what a move leaves (`Migrates`), which messages are printed
+/// (`PrintsMessages`), which state is told (`TellsStatus`), and what an exercise writes (`EndsExercise`).
+/// `docs/formats.md` has the script, the table, the transcript, the disks and the last line at the statuses
+/// 2, 3, 5, 6, 7, 8 and 10.
 pub fn batch<S: Shelf, I: Source, O: Sink>(
     alloc: Global,
     words: &Vec<String>,
@@ -119,10 +123,12 @@ pub fn batch<S: Shelf, I: Source, O: Sink>(
     ensures back { S.told.tells → AllAreBack (S.told.disk shelf.old) (S.told.disk shelf.new) }
     // A disk fails only where the shelf's count rose, or where a line of the script tells so of a low side alone, whatever
     // the shelf tells.
-    ensures device { result ≡ 7 → Rose (S.told.disk_faults shelf.old) (S.told.disk_faults shelf.new)
+    ensures device { (IsBeside (map string_bytes words.now.items) → ⊥) → result ≡ 7 → Rose (S.told.disk_faults shelf.old) (S.told.disk_faults shelf.new)
         ⊎ (TellsFault (I.left script.old) (I.left script.new)
         × (S.told.tells → S.Disk.told.tells → Wrote (I.left script.old) (O.written out.old) (O.written out.new) (IsFailed (shelved (S.told.disk shelf.old) (S.told.disk shelf.new)) (I.left script.new)))) }
-    ensures disk { (IsReplay (map string_bytes words.now.items) → ⊥) → result ≡ 7 → Rose (S.told.disk_faults shelf.old) (S.told.disk_faults shelf.new) }
+    ensures disk { (IsReplay (map string_bytes words.now.items) → ⊥) → (IsBeside (map string_bytes words.now.items) → ⊥) → result ≡ 7 → Rose (S.told.disk_faults shelf.old) (S.told.disk_faults shelf.new) }
+    // The commands beside a relay take no disk off the shelf. That a file of a disk is not read is a failed read to them.
+    ensures beside { IsBeside (map string_bytes words.now.items) → (S.told.disk shelf.new ≡ S.told.disk shelf.old) × (result ≡ 7 → Rose (S.told.faults shelf.old) (S.told.faults shelf.new)) }
     // A read fails, and a write, only where the source's, the shelf's or the sink's count rose.
     ensures file { (ReadsScript (map string_bytes words.now.items) → ⊥) → (IsWrap (map string_bytes words.now.items) → ⊥) → result ≡ 3 → Rose (S.told.faults shelf.old) (S.told.faults shelf.new) }
     ensures read { ReadsScript (map string_bytes words.now.items) → result ≡ 3 → Rose (I.faults script.old) (I.faults script.new) }
@@ -134,7 +140,7 @@ pub fn batch<S: Shelf, I: Source, O: Sink>(
         (I.left script.old) (I.left script.new) (O.written out.old) (O.written out.new) (I.faults script.old) (I.faults script.new) }
     ensures chain { IsChain (map string_bytes words.now.items) → S.told.tells → S.Disk.told.tells → EndsChainWith result (S.told.disk shelf.old) (S.told.disk shelf.new) (FailsAt S.told S.Disk.told shelf.old shelf.new)
         (I.left script.old) (I.left script.new) (O.written out.old) (O.written out.new) (I.faults script.old) (I.faults script.new) }
-    // How formatting, showing, moving, sending and writing a file and an exercise end.
+    // How formatting, showing, moving, sending and writing a file, printing messages, telling a state and an exercise end.
     ensures format { (table : List ℕ) (session : ℕ) → AreWordsOf (map string_bytes words.now.items) (commands.Format table session) → S.told.tells → S.Disk.told.tells
         → EndsWithStatus (Formats (S.told.file shelf.old table) (S.told.disk shelf.old) (S.told.disk shelf.new) (FailsAt S.told S.Disk.told shelf.old shelf.new) session) (O.written out.old) (O.written out.new) result }
     ensures show { (table : List ℕ) (session : ℕ) → AreWordsOf (map string_bytes words.now.items) (commands.Show table session) → S.told.tells → S.Disk.told.tells
@@ -146,6 +152,10 @@ pub fn batch<S: Shelf, I: Source, O: Sink>(
         → EndsWrap (S.told.faults shelf.old) (S.told.faults shelf.new) (S.told.file shelf.old table) (S.told.disk shelf.old) (S.told.disk shelf.new) (FailsAt S.told S.Disk.told shelf.old shelf.new) session (I.left script.old) (I.left script.new) (O.written out.old) (O.written out.new) result }
     ensures unwrap { (table : List ℕ) (session : ℕ) → AreWordsOf (map string_bytes words.now.items) (commands.Unwrap table session) → S.told.tells → S.Disk.told.tells
         → EndsUnwrap (S.told.file shelf.old table) (S.told.disk shelf.old) (S.told.disk shelf.new) (RecvFailsAt S.told S.Disk.told shelf.old shelf.new) session (O.written out.old) (O.written out.new) result }
+    ensures messages { (table : List ℕ) (session : ℕ) (from : ℕ) → AreWordsOf (map string_bytes words.now.items) (commands.Messages table session from) → S.told.tells
+        → EndsWithStatus (PrintsMessages (S.told.file shelf.old table) (disk_file (S.told.file shelf.old) session Recv) session from) (O.written out.old) (O.written out.new) result }
+    ensures tells { (table : List ℕ) (session : ℕ) → AreWordsOf (map string_bytes words.now.items) (commands.Status table session) → S.told.tells
+        → EndsWithStatus (TellsStatus (S.told.file shelf.old table) (disk_file (S.told.file shelf.old) session) (Rose (S.told.faults shelf.old) (S.told.faults shelf.new)) session) (O.written out.old) (O.written out.new) result }
     ensures exercise { (seed : ℕ) (count : ℕ) → AreWordsOf (map string_bytes words.now.items) (commands.Exercise seed count)
         → (shelf.new ≡ shelf.old) × EndsExercise seed count (O.written out.old) (O.written out.new) result }
     // What is said of a record, and of two.
@@ -190,6 +200,16 @@ pub fn batch<S: Shelf, I: Source, O: Sink>(
         Command::Wrap { table, session } => {
             return wrap_session(alloc, table, *session, shelf, script, out).status();
         }
+        Command::Messages {
+            table,
+            session,
+            from,
+        } => {
+            return print_messages(alloc, table, *session, *from, shelf, out).status();
+        }
+        Command::Status { table, session } => {
+            return tell_status(alloc, table, *session, shelf, out).status();
+        }
         Command::Chain => return replay_chain(alloc, shelf, script, out).status(),
         Command::Exercise { seed, count } => return run_exercise(alloc, *seed, *count, out),
         Command::Audit => return audit_script(alloc, script, out),
@@ -197,7 +217,8 @@ pub fn batch<S: Shelf, I: Source, O: Sink>(
         Command::Race { .. }
         | Command::Serve { .. }
         | Command::Receive { .. }
-        | Command::Send { .. } => return refuse_words(out),
+        | Command::Send { .. }
+        | Command::Append { .. } => return refuse_words(out),
     }
     replay(alloc, shelf, script, out)
 }

@@ -3,6 +3,7 @@
 //! They know no file, no socket and no clock of their own: the caller brings all of that.
 #![tactic(auto)]
 
+mod append;
 mod batch_commands;
 mod live_commands;
 mod receive;

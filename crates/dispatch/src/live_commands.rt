@@ -11,14 +11,17 @@ ghost use Rattle.relay_side.specs.Sides.{side};
 ghost use Rattle.commands.specs.LentDisks.{RecvFailsAt};
 ghost use Rattle.script_replay.specs.Failing.{FailsAt};
 ghost use Rattle.script_replay.specs.Shelves.{AllAreBack};
+ghost use Rattle.peers.specs.Appending.{link_tells};
 ghost use Rattle.serving.specs.Doors.{doors, links};
-ghost use Rattle.dispatch.specs.Commands.{is_live, IsNoLiveCommand, IsAtHigh, IsAtLow, IsOverTable, IsSend, IsServe, IsTimed, RefusesWords};
+ghost use Rattle.dispatch.specs.Appendings.{AppendComes};
+ghost use Rattle.dispatch.specs.Commands.{is_live, IsNoLiveCommand, IsAtHigh, IsAtLow, IsOverTable, IsSender, IsServe, IsTimed, RefusesWords};
 ghost use Rattle.dispatch.specs.LiveEnds.{EndsLive};
 ghost use Rattle.dispatch.specs.Racing.{IsRecordOf, EndsRace};
 ghost use Rattle.dispatch.specs.Receptions.{ReceiveComes};
 ghost use Rattle.dispatch.specs.Sendings.{SendComes};
 ghost use Rattle.dispatch.specs.Servings.{ServeComes};
 
+use crate::append::append_session;
 use crate::batch_commands::refuse_words;
 use crate::receive::receive_session;
 use crate::send::send_session;
@@ -66,29 +69,31 @@ fn run_race<R: Threads + Wait + Sync, P, K: Clock + Send, O: Sink + Send>(
 /// - 0: the command was done, and what it prints was written.
 /// - 1: there was not enough memory; nothing was written.
 /// - 2: the words are no such command, which is what the output says.
-/// - 3: the file of the table could not be read; or the script of `send` could not, or the key of `serve`,
+/// - 3: the file of the table could not be read; or the script of `send` or `append` could not, or the key of `serve`,
 ///   or its source ended before 32 bytes.
 /// - 4: the output could not be written; a prefix of what is to be written was.
-/// - 5: a line of the script of `send` is no payload.
+/// - 5: a line of the script of `send` or `append` is no payload.
 /// - 6: the file of the table gives no row for the session.
 /// - 7: a disk of the session could not be taken off the shelf, or a call of it failed.
 /// - 8: a disk of the session is refused when it is opened.
 /// - 9: a port gave no door, or no link: that of the side whose count of faults rose.
-/// - 10: a message that `receive` is given does not fit on the receiver's disk, or is ahead of it.
-/// - 11: the relay refused what `send` sent.
-/// - 12: `send` was not done when the link ended, or was looked at as often as it was to be.
+/// - 10: a message that `receive` is given does not fit on the receiver's disk, or is ahead of it; or the
+///   relay of `append` wants neither the message under way nor the one behind it.
+/// - 11: the relay refused what `send` or `append` sent.
+/// - 12: `send` was not done when its link ended, or `send` or `append` was not when no look was left.
 ///
 /// It is the first of these whose cause comes up: that of the words, then of the table, then of the key, then
 /// those of the disks, the ports and the lines in turn. The disks that a command takes off the shelf are back
 /// on it at the return, and so are links and doors at the ports.
 ///
-/// Each side has ports and a clock of its own. `serve` is at both, `send` at the low side alone and `receive` at
-/// the high one. A race asks the low clock for the moment of each of its looks. It needs no shelf, port, key and
+/// Each side has ports and a clock of its own. `serve` is at both, `send` and `append` are at the low side alone,
+/// and `receive` at the high one. A race asks the low clock for the moment of each of its looks. It needs no shelf, port, key and
 /// script, and nothing of the high side. Where the clock and the sink tell, `EndsRace` says that what is written
 /// is the record of the looks that had these moments, and what a record has. Where the shelf and its disks tell,
 /// `ServeComes` says how serving comes to its end: what each worker did, at which door, by which clock, with
 /// which words and over which disk (`LowServed`, `HighServed`); and `SendComes` and `ReceiveComes` what Low's
-/// sender and High's receiver did over the link that came. `docs/formats.md` has the lines.
+/// sender and High's receiver did over the link that came, and `AppendComes` what Low's sender of a stream did over
+/// those that came. `docs/formats.md` has the lines.
 pub fn live<
     R: Threads + Wait + Sync,
     S: Shelf,
@@ -121,7 +126,7 @@ where
     ensures shelf { (IsOverTable (map string_bytes words.now.items) → ⊥) → shelf.new ≡ shelf.old }
     ensures low_ports { (IsAtLow (map string_bytes words.now.items) → ⊥) → low.new.ports ≡ low.old.ports }
     ensures high_ports { (IsAtHigh (map string_bytes words.now.items) → ⊥) → high.new.ports ≡ high.old.ports }
-    ensures script { (IsSend (map string_bytes words.now.items) → ⊥) → script.new ≡ script.old }
+    ensures script { (IsSender (map string_bytes words.now.items) → ⊥) → script.new ≡ script.old }
     ensures keys { (IsServe (map string_bytes words.now.items) → ⊥) → (keys.new ≡ keys.old) × (high.new.clock ≡ high.old.clock) }
     ensures clock { (IsTimed (map string_bytes words.now.items) → ⊥) → low.new.clock ≡ low.old.clock }
     // Whatever the status is, every disk is back on the shelf.
@@ -145,6 +150,9 @@ where
         (O.written out.old) (O.faults out.old) (S.told.file shelf.old table) (S.told.disk shelf.old) (S.told.disk shelf.new) (RecvFailsAt S.told S.Disk.told shelf.old shelf.new) session) (O.written out.new) (O.faults out.new) session result }
     ensures send { (table : List ℕ) (session looks : ℕ) → AreWordsOf (map string_bytes words.now.items) (commands.Send table session looks) → S.told.tells
         → EndsLive (SendComes (links P.Link.gives P.Link.sent P.Link.faults) looks (P.did low.old.ports) (P.did low.new.ports)
+        (I.left script.old) (I.left script.new) (I.faults script.old) (I.faults script.new) (O.written out.old) (O.faults out.old) (S.told.file shelf.old table) (S.told.faults shelf.old) (S.told.faults shelf.new) session) (O.written out.new) (O.faults out.new) session result }
+    ensures append { (table : List ℕ) (session looks : ℕ) → AreWordsOf (map string_bytes words.now.items) (commands.Append table session looks) → S.told.tells
+        → EndsLive (AppendComes (link_tells P.Link.gives P.Link.sent P.Link.faults) looks (P.did low.old.ports) (P.did low.new.ports)
         (I.left script.old) (I.left script.new) (I.faults script.old) (I.faults script.new) (O.written out.old) (O.faults out.old) (S.told.file shelf.old table) (S.told.faults shelf.old) (S.told.faults shelf.new) session) (O.written out.new) (O.faults out.new) session result }
 {
     let asked = match command_of(alloc, words.as_slice()) {
@@ -173,6 +181,11 @@ where
             session,
             looks,
         } => send_session(alloc, table, *session, *looks, shelf, low, script, out),
+        Command::Append {
+            table,
+            session,
+            looks,
+        } => append_session(alloc, table, *session, *looks, shelf, low, script, out),
         _ => refuse_words(out),
     }
 }

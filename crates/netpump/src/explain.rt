@@ -1,5 +1,6 @@
 //! The sentences that say why the program ended, and what to do.
 
+mod appending;
 mod auditing;
 mod disks;
 mod files;
@@ -10,9 +11,10 @@ mod unwrapping;
 mod words;
 mod wrapping;
 
+use appending::explain_append;
 use auditing::{explain_audit, explain_difference, explain_unpaired};
 use disks::explain_refusal;
-use files::{explain_disk_file, explain_table_file, table_bytes};
+use files::{explain_disk_file, explain_table_file, explain_unread_disk, table_bytes};
 pub use link::row;
 use link::{
     explain_ahead, explain_full, explain_port, explain_refused, explain_unfinished,
@@ -99,6 +101,19 @@ fn explain_device(rt: &HostRuntime, last: &[u8], trouble: Trouble) -> io::Result
     }
 }
 
+/// The file of a disk that was not read beside a relay.
+fn explain_beside(rt: &HostRuntime, last: &[u8], trouble: Trouble) -> io::Result<()> {
+    let line = fault_line(last).unwrap_or("");
+    let session = field(line, 2);
+    let role = field(line, 3);
+    match trouble {
+        Trouble::Failed(why) | Trouble::Unread(why) => explain_unread_disk(rt, session, role, why),
+        _ => eprintln!(rt;
+            "netpump: the file {session}.{role} in this folder could not be read; see that it is there and that it is yours to read, and try again"
+        ),
+    }
+}
+
 fn explain_unread(rt: &HostRuntime, words: &[String], trouble: Trouble) -> io::Result<()> {
     let table = table_name(rt, words);
     match (trouble, word(words, 0)) {
@@ -172,6 +187,9 @@ pub fn explain(rt: &HostRuntime, words: &[String], ending: &Ending<'_>) -> io::R
         2 => explain_words(rt, words),
         3 => explain_unread(rt, words, trouble),
         4 => explain_unwritten(rt, words),
+        5 | 10 | 11 | 12 if word(words, 0) == Some("append") => {
+            explain_append(rt, words, status, last)
+        }
         5 if word(words, 0) == Some("send") => explain_message(rt, last),
         5 if word(words, 0) == Some("compare") => explain_unpaired(rt, last),
         10 | 13 | 14 if word(words, 0) == Some("wrap") => explain_wrap(rt, words, status, last),
@@ -179,6 +197,9 @@ pub fn explain(rt: &HostRuntime, words: &[String], ending: &Ending<'_>) -> io::R
             explain_unwrap(rt, words, status, trouble)
         }
         6 => explain_table(rt, words, last),
+        7 if matches!(word(words, 0), Some("messages" | "status")) => {
+            explain_beside(rt, last, trouble)
+        }
         7 => explain_device(rt, last, trouble),
         8 => explain_refusal(rt, words, last),
         9 => explain_port(rt, words, trouble),

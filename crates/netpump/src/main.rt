@@ -41,18 +41,17 @@ fn begin_with(words: &[String], name: &str) -> bool {
 
 /// Does the first word name a command with threads or over a socket?
 fn is_live(words: &[String]) -> bool {
-    ["race", "serve", "receive", "send"]
+    ["race", "serve", "receive", "send", "append"]
         .iter()
         .any(|name| begin_with(words, name))
 }
 
 /// What the command does with disks.
 fn access(words: &[String]) -> Access {
-    if begin_with(words, "show") || begin_with(words, "unwrap") {
-        Access::Read
-    } else {
-        Access::Write
-    }
+    let reads = ["show", "unwrap", "messages", "status"]
+        .iter()
+        .any(|name| begin_with(words, name));
+    if reads { Access::Read } else { Access::Write }
 }
 
 /// The row of the session that is to be served, if the words are for that and the table has it.

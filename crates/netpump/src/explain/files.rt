@@ -61,6 +61,26 @@ pub fn explain_disk_file(
     }
 }
 
+/// Says why a disk's file could not be read beside a relay.
+pub fn explain_unread_disk(
+    rt: &HostRuntime,
+    session: &str,
+    role: &str,
+    why: ErrorKind,
+) -> io::Result<()> {
+    match why {
+        ErrorKind::InvalidInput => eprintln!(rt;
+            "netpump: what is called {session}.{role} in this folder is no regular file but a folder, a link, a device or a pipe; run this in the folder of the disks"
+        ),
+        _ => {
+            let reason = reason(why);
+            eprintln!(rt;
+                "netpump: the file {session}.{role} in this folder could not be read: {reason}; run this in the folder of the disks, as a user that may read them"
+            )
+        }
+    }
+}
+
 /// The bytes of a file that may be a table. What is no regular file, or has more bytes, is not read to its end.
 pub fn table_bytes(rt: &HostRuntime, name: &str) -> io::Result<Vec<u8>> {
     if !fs::symlink_metadata(rt, name)?.is_file() {

@@ -39,6 +39,9 @@ pub fn explain_unwritten(rt: &HostRuntime, words: &[String]) -> io::Result<()> {
         Some("serve") => {
             "start the relay again, with a new file for the record, since nothing was taken from Low any more. What was acknowledged is kept"
         }
+        Some("append") => {
+            "append with no input, to be told which message is next, and then the lines from that one on"
+        }
         Some("send") => "send all lines again: those that are stored are passed over",
         Some("receive") => {
             "receive again. The message whose line could not be written is kept, and its line is not printed again"

@@ -6,12 +6,14 @@ use Rattle.commands.specs.LentDisks.{RecvFailsAt}
 use Rattle.script_replay.specs.Failing.{FailsAt}
 use Rattle.script_replay.specs.Shelves.{Places}
 use Rattle.serving.specs.Doors.{doors, links}
+use Rattle.peers.specs.Appending.{link_tells}
+use Rattle.dispatch.specs.Appendings.{AppendComes}
 use Rattle.dispatch.specs.LiveEnds.{EndsLive}
 use Rattle.dispatch.specs.Racing.{IsRecordOf, EndsRace}
 use Rattle.dispatch.specs.Receptions.{ReceiveComes}
 use Rattle.dispatch.specs.Sendings.{SendComes}
 use Rattle.dispatch.specs.Servings.{ServeComes}
-use Rattle.dispatch.proofs.Asked.{asks, asks_no_live, is_not, other, race_asked, serve_asked, receive_asked, send_asked}
+use Rattle.dispatch.proofs.Asked.{asks, asks_no_live, batch_alone, is_not, not_live, other, race_asked, serve_asked, receive_asked, send_asked, append_asked}
 use Rattle.dispatch.proofs.Caused.{told_not, exercise_not, race_memory}
 use Rattle.commands.specs.declared.command_end.CommandEnd.TheVariants as ends
 use Rattle.pump_link.proofs.Grown.{Grows-nil}
@@ -44,6 +46,7 @@ returns-in-Race g c =
       serve = λ table session looks words. elim (other _ call a (commands.Serve table session looks) refl words) [ ];
       receive = λ table session looks words. elim (other _ call a (commands.Receive table session looks) refl words) [ ];
       send = λ table session looks words. elim (other _ call a (commands.Send table session looks) refl words) [ ];
+      append = λ table session looks words. elim (other _ call a (commands.Append table session looks) refl words) [ ];
     }
 
 pub returns-in-Serve : goal.returns-in-Serve
@@ -71,6 +74,7 @@ returns-in-Serve g c =
           _ table _ session _ looks (e.ends told tells) call refl (a.only (commands.Serve table session looks) words);
       receive = λ table session looks words. elim (other _ call a (commands.Receive table session looks) refl words) [ ];
       send = λ table session looks words. elim (other _ call a (commands.Send table session looks) refl words) [ ];
+      append = λ table session looks words. elim (other _ call a (commands.Append table session looks) refl words) [ ];
     }
 
 pub returns-in-Receive : goal.returns-in-Receive
@@ -98,6 +102,7 @@ returns-in-Receive g c =
       receive = λ table session looks words told tells. receive_asked (λ (t : List ℕ) (n l : ℕ). EndsLive (ReceiveComes (links g.P.Link.Link.gives g.P.Link.Link.sent g.P.Link.Link.faults) l (g.P.Ports.did c.args.high.now.ports) (g.P.Ports.did c.receive_session.new.high.ports) (g.O.Sink.written c.args.out.now) (g.O.Sink.faults c.args.out.now) (g.S.Shelf.told.file c.args.shelf.now t) (g.S.Shelf.told.disk c.args.shelf.now) (g.S.Shelf.told.disk c.receive_session.new.shelf) (RecvFailsAt g.S.Shelf.told g.S.Disk.Disk.told c.args.shelf.now c.receive_session.new.shelf) n) (g.O.Sink.written c.receive_session.new.out) (g.O.Sink.faults c.receive_session.new.out) n c.receive_session.result)
           _ table _ session _ looks (e.ends told tells) call refl (a.only (commands.Receive table session looks) words);
       send = λ table session looks words. elim (other _ call a (commands.Send table session looks) refl words) [ ];
+      append = λ table session looks words. elim (other _ call a (commands.Append table session looks) refl words) [ ];
     }
 
 pub returns-in-Send : goal.returns-in-Send
@@ -108,10 +113,10 @@ returns-in-Send g c =
     record {
       words = λ none. elim (none call refl a.are) [ ];
       known = λ d live words. e.words;
-      shelf = λ none. elim (none (inr (inr (_, _, _, a.are)))) [ ];
-      low_ports = λ none. elim (none (inr (_, _, _, a.are))) [ ];
+      shelf = λ none. elim (none (inr (inr (inl (_, _, _, a.are))))) [ ];
+      low_ports = λ none. elim (none (inr (inl (_, _, _, a.are)))) [ ];
       high_ports = λ none. refl;
-      script = λ none. elim (none (_, _, _, a.are)) [ ];
+      script = λ none. elim (none (inl (_, _, _, a.are))) [ ];
       keys = λ none. (refl, refl);
       clock = λ none. e.clock;
       back = λ told name out. subst (λ (places : Places). IsOut (places name)) e.disks out;
@@ -125,6 +130,63 @@ returns-in-Send g c =
       receive = λ table session looks words. elim (other _ call a (commands.Receive table session looks) refl words) [ ];
       send = λ table session looks words told. send_asked (λ (t : List ℕ) (n l : ℕ). EndsLive (SendComes (links g.P.Link.Link.gives g.P.Link.Link.sent g.P.Link.Link.faults) l (g.P.Ports.did c.args.low.now.ports) (g.P.Ports.did c.send_session.new.low.ports) (g.I.Source.left c.args.script.now) (g.I.Source.left c.send_session.new.script) (g.I.Source.faults c.args.script.now) (g.I.Source.faults c.send_session.new.script) (g.O.Sink.written c.args.out.now) (g.O.Sink.faults c.args.out.now) (g.S.Shelf.told.file c.args.shelf.now t) (g.S.Shelf.told.faults c.args.shelf.now) (g.S.Shelf.told.faults c.send_session.new.shelf) n) (g.O.Sink.written c.send_session.new.out) (g.O.Sink.faults c.send_session.new.out) n c.send_session.result)
           _ table _ session _ looks (e.ends told) call refl (a.only (commands.Send table session looks) words);
+      append = λ table session looks words. elim (other _ call a (commands.Append table session looks) refl words) [ ];
+    }
+
+pub returns-in-Append : goal.returns-in-Append
+returns-in-Append g c =
+    let call = commands.Append c.in-Append.table c.in-Append.session c.in-Append.looks in
+    let a = asks _ _ c.in-Ok.asked call c.as_slice.ensures.value c.in-Ok.ensures.found c.in-Ok.ensures.command c.in-Append.is in
+    let e = c.append_session.ensures in
+    record {
+      words = λ none. elim (none call refl a.are) [ ];
+      known = λ d live words. e.words;
+      shelf = λ none. elim (none (inr (inr (inr (_, _, _, a.are))))) [ ];
+      low_ports = λ none. elim (none (inr (inr (_, _, _, a.are)))) [ ];
+      high_ports = λ none. refl;
+      script = λ none. elim (none (inr (_, _, _, a.are))) [ ];
+      keys = λ none. (refl, refl);
+      clock = λ none. e.clock;
+      back = λ told name out. subst (λ (places : Places). IsOut (places name)) e.disks out;
+      memory = e.memory;
+      read = λ three. elim (e.read three) [ inl script ↦ inr (inl script) | inr shelf ↦ inl shelf ];
+      unwritten = e.unwritten;
+      device = λ seven. elim (e.disk.0 seven) [ ];
+      link = λ nine. elim (e.link nine) [ ];
+      race = λ seed count times words. elim (other _ call a (commands.Race seed count (record { items = times })) refl words) [ ];
+      serve = λ table session looks words. elim (other _ call a (commands.Serve table session looks) refl words) [ ];
+      receive = λ table session looks words. elim (other _ call a (commands.Receive table session looks) refl words) [ ];
+      send = λ table session looks words. elim (other _ call a (commands.Send table session looks) refl words) [ ];
+      append = λ table session looks words told. append_asked (λ (t : List ℕ) (n l : ℕ). EndsLive (AppendComes (link_tells g.P.Link.Link.gives g.P.Link.Link.sent g.P.Link.Link.faults) l (g.P.Ports.did c.args.low.now.ports) (g.P.Ports.did c.append_session.new.low.ports) (g.I.Source.left c.args.script.now) (g.I.Source.left c.append_session.new.script) (g.I.Source.faults c.args.script.now) (g.I.Source.faults c.append_session.new.script) (g.O.Sink.written c.args.out.now) (g.O.Sink.faults c.args.out.now) (g.S.Shelf.told.file c.args.shelf.now t) (g.S.Shelf.told.faults c.args.shelf.now) (g.S.Shelf.told.faults c.append_session.new.shelf) n) (g.O.Sink.written c.append_session.new.out) (g.O.Sink.faults c.append_session.new.out) n c.append_session.result)
+          _ table _ session _ looks (e.ends told) call refl (a.only (commands.Append table session looks) words);
+    }
+
+pub returns-in_default : goal.returns-in_default
+returns-in_default g c =
+    let a = asks _ _ c.in-Ok.asked c.in-Ok.asked c.as_slice.ensures.value c.in-Ok.ensures.found c.in-Ok.ensures.command refl in
+    let is = c.in_default in
+    let none = batch_alone _ c.in-Ok.asked (not_live c.in-Ok.asked is.not-Race is.not-Serve is.not-Receive is.not-Send is.not-Append) a in
+    let told = c.refuse_words-in_default.ensures.told in
+    record {
+      words = λ words. inl told;
+      known = λ d live words. elim (none d live words) [ ];
+      shelf = λ none. refl;
+      low_ports = λ none. refl;
+      high_ports = λ none. refl;
+      script = λ none. refl;
+      keys = λ none. (refl, refl);
+      clock = λ none. refl;
+      back = λ tells name out. out;
+      memory = λ one. elim (told_not _ _ _ 1 told refl refl one) [ ];
+      read = λ three. elim (told_not _ _ _ 3 told refl refl three) [ ];
+      unwritten = c.refuse_words-in_default.ensures.cause;
+      device = λ seven. elim (told_not _ _ _ 7 told refl refl seven) [ ];
+      link = λ nine. elim (told_not _ _ _ 9 told refl refl nine) [ ];
+      race = λ seed count times words. elim (none (commands.Race seed count (record { items = times })) refl words) [ ];
+      serve = λ table session looks words. elim (none (commands.Serve table session looks) refl words) [ ];
+      receive = λ table session looks words. elim (none (commands.Receive table session looks) refl words) [ ];
+      send = λ table session looks words. elim (none (commands.Send table session looks) refl words) [ ];
+      append = λ table session looks words. elim (none (commands.Append table session looks) refl words) [ ];
     }
 
 pub returns-in-Err-NoCommand : goal.returns-in-Err-NoCommand
@@ -150,6 +212,7 @@ returns-in-Err-NoCommand g c =
       serve = λ table session looks words. elim (none (commands.Serve table session looks) refl words) [ ];
       receive = λ table session looks words. elim (none (commands.Receive table session looks) refl words) [ ];
       send = λ table session looks words. elim (none (commands.Send table session looks) refl words) [ ];
+      append = λ table session looks words. elim (none (commands.Append table session looks) refl words) [ ];
     }
 
 pub returns-in-Err-Memory : goal.returns-in-Err-Memory
@@ -186,6 +249,14 @@ returns-in-Err-Memory g c = record {
     later = omega arith;
   };
   send = λ table session looks words told. record {
+    end = ends.Memory;
+    mid = g.O.Sink.written c.args.out.now;
+    mid_faults = g.O.Sink.faults c.args.out.now;
+    comes = inl ((tt, λ e. absurd (cc)), Grows-nil _, refl);
+    last = inl (refl, search rules);
+    later = omega arith;
+  };
+  append = λ table session looks words told. record {
     end = ends.Memory;
     mid = g.O.Sink.written c.args.out.now;
     mid_faults = g.O.Sink.faults c.args.out.now;

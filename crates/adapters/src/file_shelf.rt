@@ -4,6 +4,7 @@ ghost use Rattle.adapters.specs.Files.{counts_alone};
 
 use crate::file_disk::FileDisk;
 use crate::file_place::{Access, is_there};
+use crate::interruption::{TRIES, is_interrupted};
 use disk_model::{Disk, DiskName, Shelf, ShelfFault};
 use pump_frame::raised;
 use std::alloc::Global;
@@ -28,13 +29,31 @@ pub struct FileShelf<'a, R> {
     why: Option<ErrorKind>,
 }
 
+// Reads from the file's start until it ends or the room is full, and says how many bytes came.
+fn fill(file: &File, into: &mut [u8]) -> io::Result<usize> {
+    let mut count = 0;
+    // Each read gives a byte at least, but the last one and those that a signal interrupts.
+    for _ in 0..into.len().saturating_add(TRIES as usize) {
+        match file.read_at(&mut into[count..], count as u64) {
+            Ok(0) => return Ok(count),
+            Ok(more) => count += more,
+            Err(error) if is_interrupted(&error) => continue,
+            Err(error) => return Err(error),
+        }
+    }
+    Ok(count)
+}
+
+// The size is what the reads found, and is asked for only where the room was too small: a file that grows
+// meanwhile has what its first bytes tell of.
 fn read_whole<R: Files<File = File>>(files: &R, name: &str, into: &mut [u8]) -> io::Result<u64> {
     is_there(files, name)?;
     let file = File::open(files, name)?;
-    let length = file.metadata()?.len();
-    let fits = length.min(into.len() as u64) as usize;
-    file.read_exact_at(&mut into[..fits], 0)?;
-    Ok(length)
+    let count = fill(&file, into)?;
+    if count < into.len() {
+        return Ok(count as u64);
+    }
+    Ok(file.metadata()?.len())
 }
 
 impl<'a, R> FileShelf<'a, R> {

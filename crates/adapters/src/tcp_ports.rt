@@ -3,6 +3,7 @@
 ghost use Rattle.std.specs.Prelude.{◌≡◌, ◌≤◌};
 ghost use Rattle.pump_frame.specs.Counts.{raised};
 
+use crate::readiness::pause;
 use crate::tcp_door::TcpDoor;
 use crate::tcp_link::TcpLink;
 use crate::traffic::Traffic;
@@ -11,6 +12,9 @@ use pump_link::{Ports, PortsFault};
 use std::alloc::Global;
 use std::io::{self, ErrorKind};
 use std::net::{Ipv4Addr, Net, TcpListener, TcpStream};
+
+/// How many milliseconds a failed call of a port waits, so that who calls again at once keeps no processor busy.
+const PAUSE: i32 = 10;
 
 /// The TCP ports of 127.0.0.1 for one side of a relay. They tell how often a call failed, and nothing else.
 ///
@@ -89,7 +93,10 @@ impl<'a, R: Net<Listener = TcpListener, Stream = TcpStream>> Ports for TcpPorts<
     fn connect(&mut self, port: u16) -> Result<TcpLink<'a>, PortsFault> {
         match self.call(port) {
             Ok(link) => Ok(link),
-            Err(_) => Err(self.fault()),
+            Err(_) => {
+                pause(PAUSE);
+                Err(self.fault())
+            }
         }
     }
 

@@ -1,7 +1,6 @@
 //! A disk of a session as its file stands, in memory.
 
 ghost use Rattle.std.specs.Prelude.{◌≡◌, ◌≤◌, length, false, IfOk, IfErr, IfSome};
-ghost use Rattle.disk_model.specs.Plain.{plain_meaning};
 ghost use Rattle.commands.specs.ReadDisks.{file_name, disk_file, Holds, IsReadOf, IsUnread};
 
 use crate::command_end::CommandEnd;

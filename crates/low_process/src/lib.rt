@@ -1,5 +1,5 @@
 //! The low process: it takes the low party's messages, stores them, passes them on, and
-//! acknowledges each after a random delay. `docs/model.md`, "Low histories", tells what its
+//! acknowledges each after a random delay. `docs/model.md`, "Low's history", tells what its
 //! replies are.
 #![tactic(auto)]
 

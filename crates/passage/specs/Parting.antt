@@ -1,6 +1,6 @@
 -- A passage between two threads before its ends are parted.
 use Rattle.std.specs.Prelude.{◌≡◌, ◌-◌, ◌≤◌, [], MatchOption}
-use Rattle.crossbeam_queue.specs.Passes.{view, IsPassOf}
+use Rattle.crossbeam_queue.specs.Passes.{view, IsPassOf, ruled_capacity}
 use Rattle.crossbeam_utils.specs.Seq.{cell_view}
 use Rattle.pump_frame.specs.Rows.{greatest_capacity}
 use Rattle.moving_avg.specs.Windows.{HoldsTimes, averaging_in}
@@ -15,8 +15,10 @@ use Rattle.passage.specs.declared.queue_passage.QueuePassage.{QueuePassage}
 abbrev pub queue_shape : QueuePassage → Shape
 queue_shape p = record { places = p.places; averaging = p.averaging }
 
--- the passes are new ones of the passage's objects, and nothing was published
+-- the queue has room for as many items as there are places; the passes are new ones of the passage's
+-- objects, and nothing was published
 pub record IsPartOf (p : QueuePassage) (u : Unparted) : Type 0 where
+  pub capacity : ruled_capacity p.queue ≡ p.places
   pub queue : IsPassOf p.queue u.queue
   pub queue_view : view u.queue ≡ queue_first
   pub low : u.low.table_id ≡ p.low_cell.table.shared.table_id

@@ -1,6 +1,6 @@
 -- What the ends between two threads stand for.
 use Rattle.std.specs.Prelude.{◌≡◌, ◌+◌, ◌-◌, ◌^◌, ◌≤◌, true, false, List, [], ◌∷◌, length}
-use Rattle.crossbeam_queue.specs.Passes.{view, IsPassOf}
+use Rattle.crossbeam_queue.specs.Passes.{view, IsPassOf, ruled_capacity}
 use Rattle.crossbeam_utils.specs.Seq.{cell_view}
 use Rattle.atomic_table.specs.Seated.{TableId}
 use Rattle.pump_frame.specs.Rows.{greatest_capacity}
@@ -10,8 +10,10 @@ use Rattle.passage.specs.HighRule.{shape_told}
 use Rattle.passage.specs.declared.queue_ends.QueueLow.{QueueLow}
 use Rattle.passage.specs.declared.queue_ends.QueueHigh.{QueueHigh}
 
--- the passes are of these objects; the low end pushes, writes low's cell and reads high's
+-- the passes are of these objects, and the queue has room for as many items as there are places; the
+-- low end pushes, writes low's cell and reads high's
 pub record IsLow (e : QueueLow) : Type 0 where
+  pub capacity : ruled_capacity e.queue.now ≡ e.places
   pub queue : IsPassOf e.queue.now e.sent
   pub pushes : (view e.sent).pushes ≡ true
   pub count : e.forwarded ≡ length (view e.sent).forwarded

@@ -116,11 +116,11 @@ module _ (pass : ℕ) (v w : HighView) (y : HighWord) (writes : v.writes ≡ tru
             ));
       }
 
-pub takes_up : (pass : ℕ) (v : HighView) (y : HighWord) → v.writes ≡ true → v.reads ≡ false → y.taken ≡ v.taken + 1 → y.count ≡ length v.times → y.average ≡ average_of v.averaging v.times
-    → Turns HighKept pass v (λ _. y) (λ v x y w. w ≡ with_taken v)
-takes_up pass v y a b tk cn av x views h at = (
-  with_taken v,
-  puts pass v (with_taken v) y a b [] (sym (append-nil v.times)) refl (omega (arith, tk)) (sym tk)
+pub takes_up : (pass : ℕ) (v : HighView) (removed : ℕ) (y : HighWord) → v.writes ≡ true → v.reads ≡ false → y.taken ≡ v.taken + 1 → y.count ≡ length v.times → y.average ≡ average_of v.averaging v.times
+    → Turns HighKept pass v (λ _. y) (λ v x y w. w ≡ with_taken v removed)
+takes_up pass v removed y a b tk cn av x views h at = (
+  with_taken v removed,
+  puts pass v (with_taken v removed) y a b [] (sym (append-nil v.times)) refl (omega (arith, tk)) (sym tk)
       (λ c. (c.0, all_weaken (λ (n : ℕ). n ≤ v.taken) (λ n. n ≤ v.taken + 1) v.taken_before (λ n le. omega (arith, le)) c.1)) cn av
       (λ times p i. subst (λ z. IsAverage (shape_told v) z p) (sym (append-nil times)) i) x views h at,
   refl,

@@ -55,7 +55,7 @@ no_averaging = record { window = 0; start = 0; coarse = false }
 
 -- before any step, with both roles in one view and a row of zeroes
 abbrev pub high_first : HighView
-high_first = record { writes = true; places = 0; averaging = no_averaging; taken = 0; times = []; taken_before = []; reads = true; room = 0; found = 0; tries = []; pairs = [] }
+high_first = record { writes = true; places = 0; averaging = no_averaging; taken = 0; floor = 0; times = []; taken_before = []; reads = true; room = 0; found = 0; tries = []; pairs = [] }
 
 -- the first swap puts the row into the view
 abbrev pub with_row : HighView → ℕ → Averaging → HighView
@@ -76,9 +76,9 @@ with_pair v count average = record v { pairs = v.pairs ++ (count, average) ∷ [
 abbrev pub PairsUpTo : HighView → ℕ → Type 0
 PairsUpTo v count = All (λ p. p.0 ≤ count) v.pairs
 
--- one more item was taken up
-abbrev pub with_taken : HighView → HighView
-with_taken v = record v { taken = v.taken + 1 }
+-- one more item was taken up, where so many messages were removed
+abbrev pub with_taken : HighView → ℕ → HighView
+with_taken v removed = record v { taken = v.taken + 1; floor = removed + 1 }
 
 -- a time is published
 abbrev pub with_time : HighView → ℕ → HighView
@@ -89,13 +89,13 @@ abbrev pub high_writer : HighView → HighView
 high_writer v = record v { reads = false; room = 0; found = 0; tries = []; pairs = [] }
 
 abbrev pub high_reader : HighView → HighView
-high_reader v = record { writes = false; places = 0; averaging = no_averaging; taken = 0; times = []; taken_before = []; reads = v.reads; room = v.room; found = v.found; tries = v.tries; pairs = v.pairs }
+high_reader v = record { writes = false; places = 0; averaging = no_averaging; taken = 0; floor = 0; times = []; taken_before = []; reads = v.reads; room = v.room; found = v.found; tries = v.tries; pairs = v.pairs }
 
 abbrev pub high_both : HighView → HighView → HighView
 high_both v w = record v { reads = w.reads; room = w.room; found = w.found; tries = w.tries; pairs = w.pairs }
 
 abbrev pub high_spent : HighView
-high_spent = record { writes = false; places = 0; averaging = no_averaging; taken = 0; times = []; taken_before = []; reads = false; room = 0; found = 0; tries = []; pairs = [] }
+high_spent = record { writes = false; places = 0; averaging = no_averaging; taken = 0; floor = 0; times = []; taken_before = []; reads = false; room = 0; found = 0; tries = []; pairs = [] }
 
 -- what a view with both roles knows
 pub record HighTies (v : HighView) : Type 0 where

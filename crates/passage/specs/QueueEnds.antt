@@ -53,10 +53,11 @@ pub record IsHigh (e : QueueHigh) : Type 0 where
 abbrev pub high_shape : QueueHigh → Shape
 high_shape e = shape_told (cell_view e.told)
 
--- what it did, as its passes tell; it says nothing of the numbers removed
+-- what it did, as its passes tell
 pub record HighEndStands (e : QueueHigh) (l : Low) (h : High) : Type 0 where
   pub is : IsHigh e
   pub taken : h.taken ≡ (view e.popped).taken
+  pub floor : h.floor ≡ (cell_view e.told).floor
   pub times : h.times ≡ (cell_view e.told).times
   pub taken_before : h.taken_before ≡ (cell_view e.told).taken_before
   pub tries : h.tries ≡ (cell_view e.sought).tries

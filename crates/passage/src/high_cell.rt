@@ -42,6 +42,8 @@ pub struct HighView {
     pub places: u64,
     pub averaging: Averaging,
     pub taken: u64,
+    // One above the number removed at the last item taken up, or 0.
+    pub floor: u64,
     pub times: LinkedList<u32>,
     pub taken_before: LinkedList<u64>,
     // The low end's part: the places, and the number taken up that it found last.
@@ -92,13 +94,21 @@ impl Outcome<HighWord, HighView> for FindsPair {
     ghost then = { λ v x y w. (y ≡ x) × (w ≡ with_pair v x.count x.average) × PairsUpTo v x.count };
 }
 
-/// The high end's swap, after a pop.
-pub struct TellsTaken;
+/// What the high end's swap after a pop is made with, which the cell does not tell: the number of
+/// messages removed so far.
+pub trait RemovedTold {
+    ghost removed: { ℕ };
+}
 
-impl Outcome<HighWord, HighView> for TellsTaken {
+/// The high end's swap, after a pop.
+pub struct TellsTaken<K> {
+    of: PhantomData<K>,
+}
+
+impl<K: RemovedTold> Outcome<HighWord, HighView> for TellsTaken<K> {
     ghost use Rattle.passage.specs.HighRule.{with_taken};
 
-    ghost then = { λ v x y w. w ≡ with_taken v };
+    ghost then = { λ v x y w. w ≡ with_taken v K.removed };
 }
 
 /// The time that is published, in microseconds.

@@ -7,8 +7,8 @@ ghost use Rattle.pump_frame.specs.Averages.{average_of};
 ghost use Rattle.passage.specs.HighRule.{HighKept, no_averaging, with_row, with_try, with_pair, PairsUpTo, with_taken, with_time, high_first};
 
 use crate::high_cell::{
-    FindsPair, FindsTaken, HighCell, HighPass, HighWord, LowTry, RowTold, TellsRow, TellsTaken,
-    TellsTime, TimeTold,
+    FindsPair, FindsTaken, HighCell, HighPass, HighWord, LowTry, RemovedTold, RowTold, TellsRow,
+    TellsTaken, TellsTime, TimeTold,
 };
 use crate::queue::QueuePass;
 use pump_frame::Averaging;
@@ -17,6 +17,10 @@ use std::sync::Wait;
 
 impl LowTry for Brand {
     ghost forwarded = { 0 };
+}
+
+impl RemovedTold for Brand {
+    ghost removed = { 0 };
 }
 
 impl TimeTold for Brand {
@@ -84,21 +88,43 @@ pub fn find_pair<R: Wait>(rt: &R, cell: &HighCell, pass: &mut HighPass) -> HighW
 }
 
 // A law without code: this step keeps the cell's rule.
-fn telling_taken(pass: &HighPass, word: HighWord)
+fn telling_taken<K: RemovedTold>(pass: &HighPass, word: HighWord)
     requires writes { (cell_view pass.now).writes ≡ true }
     requires idle { (cell_view pass.now).reads ≡ false }
     requires taken { word.taken ≡ (cell_view pass.now).taken + 1 }
     requires count { word.count ≡ length (cell_view pass.now).times }
     requires average { word.average ≡ average_of (cell_view pass.now).averaging (cell_view pass.now).times }
-    ensures { Turns HighKept pass.now.id (cell_view pass.now) (λ _. word) (λ v x y w. w ≡ with_taken v) }
+    ensures { Turns HighKept pass.now.id (cell_view pass.now) (λ _. word) (λ v x y w. w ≡ with_taken v K.removed) }
 {}
 
-/// The high end's swap, after a pop: no number is told before so many were popped.
+fn swap_taken<K: RemovedTold, R: Wait>(
+    rt: &R,
+    cell: &HighCell,
+    pass: &mut HighPass,
+    word: HighWord,
+    removed: u64,
+)
+    requires cell { pass.old.table_id ≡ cell.now.table.shared.table_id }
+    requires role { ((cell_view pass.old).writes ≡ true) × ((cell_view pass.old).reads ≡ false) }
+    requires taken { word.taken ≡ (cell_view pass.old).taken + 1 }
+    requires count { word.count ≡ length (cell_view pass.old).times }
+    requires average { word.average ≡ average_of (cell_view pass.old).averaging (cell_view pass.old).times }
+    requires removed { removed ≡ K.removed }
+    ensures cell { IsSamePass pass.old pass.new }
+    ensures rule { cell_view pass.new ≡ with_taken (cell_view pass.old) removed }
+{
+    telling_taken::<K>(pass, word);
+    cell.swap_as::<TellsTaken<K>, R>(rt, pass, word);
+}
+
+/// The high end's swap, after a pop, where so many messages were removed: no number is told before so
+/// many were popped.
 pub fn tell_taken<R: Wait>(
     rt: &R,
     cell: &HighCell,
     pass: &mut HighPass,
     word: HighWord,
+    removed: u64,
     _popped: &QueuePass,
 )
     requires popped { word.taken ≡ length (view _popped.now).taken }
@@ -108,10 +134,9 @@ pub fn tell_taken<R: Wait>(
     requires count { word.count ≡ length (cell_view pass.old).times }
     requires average { word.average ≡ average_of (cell_view pass.old).averaging (cell_view pass.old).times }
     ensures cell { IsSamePass pass.old pass.new }
-    ensures rule { cell_view pass.new ≡ with_taken (cell_view pass.old) }
+    ensures rule { cell_view pass.new ≡ with_taken (cell_view pass.old) removed }
 {
-    telling_taken(pass, word);
-    cell.swap_as::<TellsTaken, R>(rt, pass, word);
+    swap_taken::<Brand, R>(rt, cell, pass, word, removed);
 }
 
 // A law without code: this step keeps the cell's rule.

@@ -16,6 +16,8 @@ use std::alloc::Global;
 pub struct PlainEnds {
     items: HeapCircularBuffer<Item>,
     window: Window,
+    // The number removed at the last item taken up.
+    last_removed: Option<u64>,
     ghost fits: { length items.items ≤ items.capacity },
     ghost room: { (0 < items.capacity) × (items.capacity ≤ greatest_capacity - 2) },
 }
@@ -61,7 +63,11 @@ impl PlainEnds {
     {
         let items = HeapCircularBuffer::with_capacity(alloc, row.capacity as usize - 2)?;
         let window = Window::of_row(alloc, row)?;
-        Ok(PlainEnds { items, window })
+        Ok(PlainEnds {
+            items,
+            window,
+            last_removed: None,
+        })
     }
 
     /// From now on an average is its level. What the ends stood for they stand for still where no
@@ -80,6 +86,7 @@ impl PlainEnds {
     {
         self.items.clear();
         self.window.clear();
+        self.last_removed = None;
     }
 
     /// How many items are held.
@@ -108,7 +115,7 @@ impl LowEnd for PlainEnds {
 }
 
 impl HighEnd for PlainEnds {
-    fn next_into(&mut self, _removed: u64, into: &mut Item) -> bool {
+    fn next_into(&mut self, removed: u64, into: &mut Item) -> bool {
         match self.items.front() {
             Some(item) => {
                 into.number = item.number;
@@ -117,6 +124,7 @@ impl HighEnd for PlainEnds {
             None => return false,
         }
         self.items.truncate_front(self.items.len() - 1);
+        self.last_removed = Some(removed);
         true
     }
 

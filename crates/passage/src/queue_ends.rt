@@ -109,7 +109,7 @@ fn high_word(taken: u64, window: &Window) -> HighWord
 }
 
 impl WaitHighEnd for QueueHigh<'_> {
-    fn next_into<R: Wait>(&mut self, rt: &R, _removed: u64, into: &mut Item) -> bool {
+    fn next_into<R: Wait>(&mut self, rt: &R, removed: u64, into: &mut Item) -> bool {
         let found = find_forwarded(rt, self.low_cell, &mut self.sought, self.taken);
         if found.forwarded == self.taken {
             return false;
@@ -117,7 +117,14 @@ impl WaitHighEnd for QueueHigh<'_> {
         *into = pop(rt, self.queue, &mut self.popped);
         self.taken += 1;
         let word = high_word(self.taken, &self.window);
-        tell_taken(rt, self.high_cell, &mut self.told, word, &self.popped);
+        tell_taken(
+            rt,
+            self.high_cell,
+            &mut self.told,
+            word,
+            removed,
+            &self.popped,
+        );
         true
     }
 

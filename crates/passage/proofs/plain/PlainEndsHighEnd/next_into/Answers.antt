@@ -9,5 +9,5 @@ returns-clause-step c l h s =
     let e = c.args.self.now in
     let x : Item = c.in-Some.item.now in
     let copied : c.set.new.self ≡ x.payload = c.set.ensures.value ∙ c.as_slice.ensures.value in
-    gives_copy e _ l h refl s x _ c.args._removed c.len.result (λ i. record { number = x.number; payload = sym copied i })
+    gives_copy e _ l h refl s x _ c.args.removed c.len.result refl (λ i. record { number = x.number; payload = sym copied i })
     (sym c.front.ensures ∙ ap option_copied c.in-Some.is) c.len.ensures.len c.truncate_front.ensures

@@ -298,9 +298,9 @@ module _ (slots id : ℕ) (v : RingView) (high : v.is_high ≡ true) (idle : v.i
 
   -- the high end stores the number taken up, and gives the slot back; it gets that of the next item it
   -- knows of
-  module _ (k new : ℕ) (x : Item) (xs : List Item) (held : v.ahead ≡ x ∷ xs) (is : k ≡ length v.taken % slots) (more : new ≡ length v.taken + 1) (s : S) (h : RingKept s) (sl : length s.homes ≡ slots) (at : get_elem? s.views id ≡ some v) where
+  module _ (k new removed : ℕ) (x : Item) (xs : List Item) (held : v.ahead ≡ x ∷ xs) (is : k ≡ length v.taken % slots) (more : new ≡ length v.taken + 1) (s : S) (h : RingKept s) (sl : length s.homes ≡ slots) (at : get_elem? s.views id ≡ some v) where
     after : (hs : Homes) → length hs ≡ length s.homes → AreHome hs (length s.homes) h.forwarded (length h.taken + 1) xs h.limit
-        → RingKept (record { words = set s.words taken_word new; homes = hs; views = set s.views id (with_taken v x xs) })
+        → RingKept (record { words = set s.words taken_word new; homes = hs; views = set s.views id (with_taken v x removed xs) })
     after hs hm there =
         let mine = (h.each id v at).1 high in
         let F = length h.forwarded in
@@ -326,7 +326,7 @@ module _ (slots id : ℕ) (v : RingView) (high : v.is_high ≡ true) (idle : v.i
           numbered = h.numbered;
           small = h.small;
           homes = subst (λ (z : ℕ × ℕ). AreHome hs z.0 h.forwarded z.1 xs h.limit) (λ i. (sym hm i, sym grown i)) there;
-          each = each_set (RingFits h.low h.high h.forwarded all xs h.limit) s.views id (with_taken v x xs)
+          each = each_set (RingFits h.low h.high h.forwarded all xs h.limit) s.views id (with_taken v x removed xs)
               ((λ y. not_low y), λ _. record { one = mine.one; taken = ap (λ z. z ++ x ∷ []) mine.taken; ahead = refl; tries = mine.tries })
               (λ j u other e. (
                 (λ y. let r = (h.each j u e).0 y in record { one = r.one; forwarded = r.forwarded; limit = r.limit; tries = all_weaken (λ (t : ℕ × ℕ). t.1 ≤ T) (λ t. t.1 ≤ length all) u.low_tries (λ t l. omega (arith, l, grown)) r.tries }),
@@ -348,21 +348,21 @@ module _ (slots id : ℕ) (v : RingView) (high : v.is_high ≡ true) (idle : v.i
         other_home s.homes n T p T k (some (Some x)) h.forwarded k' lp' up' (le_refl T) (omega (arith, h.some_slots)) far (h.homes p lp' up' a (λ _. far)))
         (same_or_not p (T + n))
 
-  pub stores_taken : (k new : ℕ) (x : Item) (xs : List Item) → v.ahead ≡ x ∷ xs → k ≡ length v.taken % slots → new ≡ length v.taken + 1
-      → Allows RingKept slots id (v, (k, Some x) ∷ []) taken_word (λ _. new) (λ _. TookUp slots (v, (k, Some x) ∷ []) v.ahead)
-  stores_taken k new x [] held is more s h sl at fits =
+  pub stores_taken : (k new removed : ℕ) (x : Item) (xs : List Item) → v.ahead ≡ x ∷ xs → k ≡ length v.taken % slots → new ≡ length v.taken + 1
+      → Allows RingKept slots id (v, (k, Some x) ∷ []) taken_word (λ _. new) (λ _. TookUp slots (v, (k, Some x) ∷ []) removed v.ahead)
+  stores_taken k new removed x [] held is more s h sl at fits =
       let homes : Homes = set s.homes k (some (Some x)) in (
-        with_taken v x [],
+        with_taken v x removed [],
         gives,
         tt,
-        after k new x [] held is more s h sl at homes (length-set s.homes k (some (Some x))) (λ p lp up a _. back k new x [] held is more s h sl at p lp up a),
-        subst (λ (z : List Item). TookUp slots (v, (k, Some x) ∷ []) z (with_taken v x [], [])) (sym held) (refl, refl),
+        after k new removed x [] held is more s h sl at homes (length-set s.homes k (some (Some x))) (λ p lp up a _. back k new removed x [] held is more s h sl at p lp up a),
+        subst (λ (z : List Item). TookUp slots (v, (k, Some x) ∷ []) removed z (with_taken v x removed [], [])) (sym held) (refl, refl),
       )
-  stores_taken k new x (y ∷ ys) held is more s h sl at fits =
+  stores_taken k new removed x (y ∷ ys) held is more s h sl at fits =
       let mine = (h.each id v at).1 high in
       let n = length s.homes in
       let T = length h.taken in
-      let w = with_taken v x (y ∷ ys) in
+      let w = with_taken v x removed (y ∷ ys) in
       let k2 = length w.taken % slots in
       let homes : Homes = set s.homes k (some (Some x)) in
       let m : length homes ≡ n = length-set s.homes k (some (Some x)) in
@@ -372,16 +372,16 @@ module _ (slots id : ℕ) (v : RingView) (high : v.is_high ≡ true) (idle : v.i
       let far : T + 2 ≤ length h.forwarded = omega (arith, in_order s h, ap length hand) in
       let item : slice_get h.forwarded (T + 1) ≡ Some y = subst (λ (z : ℕ). slice_get h.forwarded z ≡ Some y) grown (ap (λ z. slice_get z (length (h.taken ++ x ∷ []))) whole ∙ get_last (h.taken ++ x ∷ []) y (ys ++ h.rest)) in
       let near : T + 1 < T + 1 + n = omega (arith, h.some_slots) in
-      let next = back k new x (y ∷ ys) held is more s h sl at (T + 1) (le_refl (T + 1)) near (λ _ e. omega (arith, far, e)) in
+      let next = back k new removed x (y ∷ ys) held is more s h sl at (T + 1) (le_refl (T + 1)) near (λ _ e. omega (arith, far, e)) in
       let is2 : k2 ≡ (T + 1) % n = ap (λ z. length (z ++ x ∷ []) % slots) mine.taken ∙ ap (λ z. z % slots) grown ∙ ap (λ z. (T + 1) % z) (sym sl) in
       let full : get_elem? homes k2 ≡ some (some (Some y)) = subst (λ (z : ℕ). get_elem? homes z ≡ some (some (Some y))) (sym is2) (next.1 ∙ ap (λ z. some (some z)) (next.2 (omega (arith, far)) ∙ item)) in
       let there : AreHome (set homes k2 none) n h.forwarded (T + 1) (y ∷ ys) h.limit = λ p lp up a b.
-      other_home homes n (T + 1) p (T + 1) k2 none h.forwarded is2 lp up (le_refl (T + 1)) near (b (omega arith)) (back k new x (y ∷ ys) held is more s h sl at p lp up a) in (
+      other_home homes n (T + 1) p (T + 1) k2 none h.forwarded is2 lp up (le_refl (T + 1)) near (b (omega arith)) (back k new removed x (y ∷ ys) held is more s h sl at p lp up a) in (
         w,
         chain gives (takes k2 (Some y)),
         (tt, full),
-        after k new x (y ∷ ys) held is more s h sl at (set homes k2 none) (length-set homes k2 none ∙ m) there,
-        subst (λ (z : List Item). TookUp slots (v, (k, Some x) ∷ []) z (w, (k2, Some y) ∷ [])) (sym held) (refl, refl),
+        after k new removed x (y ∷ ys) held is more s h sl at (set homes k2 none) (length-set homes k2 none ∙ m) there,
+        subst (λ (z : List Item). TookUp slots (v, (k, Some x) ∷ []) removed z (w, (k2, Some y) ∷ [])) (sym held) (refl, refl),
       )
 
 -- the high end's part of a view goes to a new seat

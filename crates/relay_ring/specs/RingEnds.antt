@@ -66,10 +66,11 @@ pub record IsHigh (e : RingHigh) : Type 0 where
 abbrev pub high_shape : RingHigh → Shape
 high_shape e = pair_shape e.writer.me.0
 
--- what it did, as its seats tell; it says nothing of the numbers removed
+-- what it did, as its seats tell
 pub record HighEndStands (e : RingHigh) (l : Low) (h : High) : Type 0 where
   pub is : IsHigh e
   pub taken : h.taken ≡ e.seat.me.0.taken
+  pub floor : h.floor ≡ e.seat.me.0.floor
   pub times : h.times ≡ e.writer.me.0.times
   pub taken_before : h.taken_before ≡ e.writer.me.0.taken_before
   pub tries : h.tries ≡ e.seat.me.0.high_tries

@@ -76,7 +76,7 @@ pub record RingKept (s : State (Option Item) RingView) : Type 0 where
 
 -- before any step, with both roles in one view
 abbrev pub ring_first : RingView
-ring_first = record { is_low = true; forwarded = []; limit = 0; low_tries = []; is_high = true; taken = []; ahead = []; high_tries = [] }
+ring_first = record { is_low = true; forwarded = []; limit = 0; low_tries = []; is_high = true; taken = []; floor = 0; ahead = []; high_tries = [] }
 
 -- a seat: what it knows, and the slots that it has
 abbrev pub Mine : Type 0
@@ -92,15 +92,16 @@ with_room v most = record v { limit = most }
 abbrev pub with_forwarded : RingView → Item → RingView
 with_forwarded v x = record v { forwarded = v.forwarded ++ x ∷ [] }
 
--- the high end finds no item; it finds some; the first of them is taken up
+-- the high end finds no item; it finds some; the first of them is taken up, where so many messages were
+-- removed
 abbrev pub with_seek : RingView → ℕ → RingView
 with_seek v forwarded = record v { high_tries = v.high_tries ++ (forwarded, length v.taken) ∷ [] }
 
 abbrev pub with_ahead : RingView → List Item → RingView
 with_ahead v items = record v { ahead = items }
 
-abbrev pub with_taken : RingView → Item → List Item → RingView
-with_taken v x items = record v { taken = v.taken ++ x ∷ []; ahead = items }
+abbrev pub with_taken : RingView → Item → ℕ → List Item → RingView
+with_taken v x removed items = record v { taken = v.taken ++ x ∷ []; floor = removed + 1; ahead = items }
 
 -- while the low end may forward more, it has the slot behind the last item
 abbrev pub HoldsNext : ℕ → Mine → Type 0
@@ -141,23 +142,23 @@ SeesItems slots m forwarded m' =
     × MatchBool (forwarded == length m.0.taken) (m' ≡ (with_seek m.0 forwarded, m.1))
     ((items : List Item) × (m'.0 ≡ with_ahead m.0 items) × (forwarded ≡ length m.0.taken + length items) × HoldsFirst slots m')
 
--- the first item ahead was taken up
-abbrev pub TookUp : ℕ → Mine → List Item → Mine → Type 0
-TookUp slots m [] m' = Unit {0}
-TookUp slots m (x ∷ xs) m' = (m'.0 ≡ with_taken m.0 x xs) × HoldsFirst slots m'
+-- the first item ahead was taken up, where so many messages were removed
+abbrev pub TookUp : ℕ → Mine → ℕ → List Item → Mine → Type 0
+TookUp slots m removed [] m' = Unit {0}
+TookUp slots m removed (x ∷ xs) m' = (m'.0 ≡ with_taken m.0 x removed xs) × HoldsFirst slots m'
 
 -- a view is parted into the two roles, and a high end's view is taken in
 abbrev pub ring_low : RingView → RingView
-ring_low v = record v { is_high = false; taken = []; ahead = []; high_tries = [] }
+ring_low v = record v { is_high = false; taken = []; floor = 0; ahead = []; high_tries = [] }
 
 abbrev pub ring_high : RingView → RingView
-ring_high v = record { is_low = false; forwarded = []; limit = 0; low_tries = []; is_high = v.is_high; taken = v.taken; ahead = v.ahead; high_tries = v.high_tries }
+ring_high v = record { is_low = false; forwarded = []; limit = 0; low_tries = []; is_high = v.is_high; taken = v.taken; floor = v.floor; ahead = v.ahead; high_tries = v.high_tries }
 
 abbrev pub ring_both : RingView → RingView → RingView
-ring_both v w = record v { is_high = w.is_high; taken = w.taken; ahead = w.ahead; high_tries = w.high_tries }
+ring_both v w = record v { is_high = w.is_high; taken = w.taken; floor = w.floor; ahead = w.ahead; high_tries = w.high_tries }
 
 abbrev pub ring_spent : RingView
-ring_spent = record { is_low = false; forwarded = []; limit = 0; low_tries = []; is_high = false; taken = []; ahead = []; high_tries = [] }
+ring_spent = record { is_low = false; forwarded = []; limit = 0; low_tries = []; is_high = false; taken = []; floor = 0; ahead = []; high_tries = [] }
 
 -- what a view with both roles knows
 pub record RingTies (slots : ℕ) (v : RingView) : Type 0 where

@@ -6,13 +6,15 @@ ghost use Rattle.relay_ring.specs.RingEnds.{IsLow, IsHigh, low_shape, low_place,
 
 use crate::pairs::{PairSeat, PairTable, read_pair, tell_time};
 use crate::ring::{
-    FORWARDED, LooksForItems, LooksForRoom, Ring, RingSeat, StoresForwarded, StoresTaken, TAKEN,
+    FORWARDED, LooksForItems, LooksForRoom, RemovedTold, Ring, RingSeat, StoresForwarded,
+    StoresTaken, TAKEN,
 };
 use crate::slots::{copy_out, fill};
 use moving_avg::Window;
 use passage::{Forwarded, HighEnd, HighSide, LowEnd, LowSide};
 use pump_core::Seen;
 use pump_frame::{Averaging, Item};
+use std::marker::Brand;
 
 /// The low end of a ring. It says that all places are full where a load of the number taken up found
 /// so many fewer than it has forwarded. It looks only once what it found before gives no room.
@@ -141,6 +143,7 @@ impl RingHigh<'_> {
         ensures place { high_place self.new ≡ high_place self.old }
         ensures told { self.new.writer ≡ self.old.writer }
         ensures taken { self.new.seat.me.0.taken ≡ self.old.seat.me.0.taken }
+        ensures floor { self.new.seat.me.0.floor ≡ self.old.seat.me.0.floor }
         ensures found { MatchBool result
             ((self.new.taken ≢ self.new.limit) × (self.new.seat.me.0.high_tries ≡ self.old.seat.me.0.high_tries))
             (self.new.seat.me.0 ≡ with_seek self.old.seat.me.0 self.old.taken) }
@@ -155,14 +158,16 @@ impl RingHigh<'_> {
         self.taken != self.limit
     }
 
-    // Takes up the next item.
-    fn take_up(&mut self, into: &mut Item)
+    // Takes up the next item, where so many messages were removed.
+    fn take_up<K: RemovedTold>(&mut self, removed: u64, into: &mut Item)
         requires end { IsHigh self.old }
         requires item { self.old.taken ≢ self.old.limit }
+        requires removed { removed ≡ K.removed }
         ensures end { IsHigh self.new }
         ensures place { high_place self.new ≡ high_place self.old }
         ensures told { self.new.writer ≡ self.old.writer }
         ensures taken { self.new.seat.me.0.taken ≡ self.old.seat.me.0.taken ++ into.new ∷ [] }
+        ensures floor { self.new.seat.me.0.floor ≡ removed + 1 }
         ensures tries { self.new.seat.me.0.high_tries ≡ self.old.seat.me.0.high_tries }
     {
         let place = (self.taken % self.places) as usize;
@@ -171,16 +176,16 @@ impl RingHigh<'_> {
         self.taken += 1;
         self.ring
             .shared
-            .store::<StoresTaken>(&mut self.seat, TAKEN, self.taken);
+            .store::<StoresTaken<K>>(&mut self.seat, TAKEN, self.taken);
     }
 }
 
 impl HighEnd for RingHigh<'_> {
-    fn next_into(&mut self, _removed: u64, into: &mut Item) -> bool {
+    fn next_into(&mut self, removed: u64, into: &mut Item) -> bool {
         if !self.has_item() {
             return false;
         }
-        self.take_up(into);
+        self.take_up::<Brand>(removed, into);
         true
     }
 

@@ -1,9 +1,12 @@
 // The ring: two words and a slot for each place. The low end alone stores the number forwarded, and
 // the high end alone the number taken up.
+ghost use Rattle.std.specs.Prelude.{ℕ};
+
 use atomic_table::{Join, Play, Seat, Split, Table, TableRule};
 use pump_frame::Item;
 use std::alloc::Global;
 use std::collections::LinkedList;
+use std::marker::{Brand, PhantomData};
 
 /// The word with the number forwarded. It and the other one each have 128 bytes of the table on
 /// either side, so that a cache line with one of them has nothing else that a thread writes.
@@ -22,9 +25,11 @@ pub struct RingView {
     pub forwarded: LinkedList<Item>,
     pub limit: u64,
     pub low_tries: LinkedList<(u64, u64)>,
-    // The high end's part: what it took up, and the items behind them that it found.
+    // The high end's part: what it took up, one above the number removed at the last of these or 0,
+    // and the items behind them that it found.
     pub is_high: bool,
     pub taken: LinkedList<Item>,
+    pub floor: u64,
     pub ahead: LinkedList<Item>,
     pub high_tries: LinkedList<(u64, u64)>,
 }
@@ -71,14 +76,26 @@ impl Play<Option<Item>, RingView> for LooksForItems {
     ghost then = { λ st m r m'. SeesItems st.slots m r m' };
 }
 
+/// What the high end's store is made with, which the word does not tell: the number of messages
+/// removed so far.
+pub trait RemovedTold {
+    ghost removed: { ℕ };
+}
+
+impl RemovedTold for Brand {
+    ghost removed = { 0 };
+}
+
 /// The high end's store of the number taken up. It gives its slot back, and gets that of the next
 /// item that it knows of.
-pub struct StoresTaken;
+pub struct StoresTaken<K> {
+    of: PhantomData<K>,
+}
 
-impl Play<Option<Item>, RingView> for StoresTaken {
+impl<K: RemovedTold> Play<Option<Item>, RingView> for StoresTaken<K> {
     ghost use Rattle.relay_ring.specs.RingRule.{TookUp};
 
-    ghost then = { λ st m r m'. TookUp st.slots m m.0.ahead m' };
+    ghost then = { λ st m r m'. TookUp st.slots m K.removed m.0.ahead m' };
 }
 
 /// The two roles are parted.

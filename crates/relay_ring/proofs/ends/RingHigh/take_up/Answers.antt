@@ -6,7 +6,7 @@ use Rattle.relay_ring.proofs.Seats.{some_ahead, slot_of_first}
 use Rattle.relay_ring.proofs.ends.RingHigh.take_up.Goals as goal
 
 pub slot_mut-slot-requires : goal.slot_mut-slot-requires
-slot_mut-slot-requires c =
+slot_mut-slot-requires g c =
     let e = c.args.self.now in
     let is = c.requires.end in
     let found = some_ahead e.taken e.limit e.seat.me.0 is.limit c.requires.item in
@@ -14,7 +14,8 @@ slot_mut-slot-requires c =
     (is.ring, (Some found.0, has ∙ ap (λ l. (e.taken % e.places, Some found.0) ∷ rest l) (sym has)))
 
 pub store-requires : goal.store-requires
-store-requires c =
+store-requires g c =
+    let removed = g.K.RemovedTold.removed in
     let e = c.args.self.now in
     let is = c.requires.end in
     let slots = e.ring.now.shared.table_id.slots in
@@ -32,6 +33,6 @@ store-requires c =
     let here : k ≡ length v.taken % slots = ap (λ z. z % e.places) is.count ∙ ap (λ z. length v.taken % z) n in (
       is.ring,
       omega (arith, ap (λ z. z.words) (sym is.ring) ∙ is.table.words),
-      subst (λ m. Allows RingKept slots e.seat.id m taken_word (λ _. e.taken + 1) (λ _. TookUp slots m m.0.ahead)) (sym read)
-          (stores_taken slots e.seat.id v is.role.1 is.role.0 k (e.taken + 1) item found.1 held here (ap (λ z. z + 1) is.count)),
+      subst (λ m. Allows RingKept slots e.seat.id m taken_word (λ _. e.taken + 1) (λ _. TookUp slots m removed m.0.ahead)) (sym read)
+          (stores_taken slots e.seat.id v is.role.1 is.role.0 k (e.taken + 1) removed item found.1 held here (ap (λ z. z + 1) is.count)),
     )

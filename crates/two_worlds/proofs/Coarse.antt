@@ -90,6 +90,7 @@ without_pairs e l h s =
         room = s.lawful.room;
       };
       between = s.between;
+      floor = s.floor;
       times = s.times;
     }
 

@@ -14,7 +14,7 @@ use Rattle.disk_model.specs.Disk.{Meaning}
 use Rattle.pump_frame.specs.Averages.{latest}
 use Rattle.pump_frame.specs.declared.frame.Item.{Item}
 use Rattle.pump_core.specs.Passage.{Low, High, Numbered, ComesNext, IsAverage}
-use Rattle.passage.specs.Plain.{held_in, shape_of, StandsFor as EndsStand}
+use Rattle.passage.specs.Plain.{held_in, shape_of, above, StandsFor as EndsStand}
 use Rattle.low_process.specs.declared.values.Asking.{Asking}
 use Rattle.low_process.specs.declared.values.Asking.TheVariants.{Nothing, Forward, Average}
 use Rattle.low_process.specs.Looks.{IsBetweenLooks, is_down, last_of, next_of, hand_of}
@@ -119,7 +119,7 @@ module _ {D : Type 0} (m : Meaning D) (c : Parts D) (able : IsAble m c) where
   abbrev pub high_seen : High
   high_seen =
       let times = padded c.ends.window.count c.ends.window.ring.items in
-      record { taken = []; floor = 0; times = times; taken_before = replicate (length times) 0; tries = [] }
+      record { taken = []; floor = above c.ends.last_removed; times = times; taken_before = replicate (length times) 0; tries = [] }
 
   times_seen : Counts c.ends.window.count c.ends.window.ring.capacity c.ends.window.ring.items (padded c.ends.window.count c.ends.window.ring.items)
   times_seen = ∥∥₁_elim able.works (hlevel props) (λ s. counts_padded c.ends.window.count c.ends.window.ring.capacity c.ends.window.ring.items s.ends.high.times s.ends.stand.times)
@@ -147,6 +147,7 @@ module _ {D : Type 0} (m : Meaning D) (c : Parts D) (able : IsAble m c) where
       room = let le = c.ends.fits in omega (arith, le);
     };
     between = refl;
+    floor = refl;
     times = times_seen;
   }
 
@@ -160,7 +161,7 @@ module _ {D : Type 0} (m : Meaning D) (c : Parts D) (able : IsAble m c) where
   pub high_fits_seen : HighFits c.high high_seen
   high_fits_seen = record {
     count = sym times_seen.0 ∙ ∥∥₁_elim able.works (hlevel props) (λ s. s.ends.stand.times.0 ∙ s.ends.high_fits.count);
-    floor = omega arith;
+    floor = ∥∥₁_elim able.works le_prop (λ s. let fits = s.ends.high_fits.floor in omega (arith, fits, s.ends.stand.floor));
   }
 
   -- ---- the low process ----

@@ -59,7 +59,7 @@ returns g c = record {
       let same : low.count ≡ high.count = r.low_count ∙ c.requires.count ∙ sym r.high_count in
       let stands = b.fitting.0 in
       let fits = fits_left low.ends c.into_end-low_end.result.0 high.ends c.into_end-high_end.result.0 c.into_end-low_end.ensures.end c.into_end-high_end.ensures.end (r.high_shape ∙ c.requires.shape) c.rejoin.ensures.lawful
-      a.low b.high a.fitting.0 (record { is = stands.is; taken = stands.taken; times = stands.times; taken_before = stands.taken_before; tries = stands.tries }) in
+      a.low b.high a.fitting.0 (record { is = stands.is; taken = stands.taken; floor = stands.floor; times = stands.times; taken_before = stands.taken_before; tries = stands.tries }) in
       let times_are : c.as_slice.result.now ≡ high.times.items = c.as_slice.ensures.value in
       let none : c.in_ok-raced.raced.low_stopped || c.in_ok-raced.raced.high_stopped ≡ false = ap (λ (z : Bool × Bool). z.0 || z.1) (λ i. (low_on i, high_on i)) in
       let O = g.O.Sink in
@@ -128,7 +128,7 @@ returns g c = record {
       let same : low.count ≡ high.count = r.low_count ∙ c.requires.count ∙ sym r.high_count in
       let stands = b.fitting.0 in
       let fits = fits_left low.ends c.into_end-low_end.result.0 high.ends c.into_end-high_end.result.0 c.into_end-low_end.ensures.end c.into_end-high_end.ensures.end (r.high_shape ∙ c.requires.shape) c.rejoin.ensures.lawful
-      a.low b.high a.fitting.0 (record { is = stands.is; taken = stands.taken; times = stands.times; taken_before = stands.taken_before; tries = stands.tries }) in
+      a.low b.high a.fitting.0 (record { is = stands.is; taken = stands.taken; floor = stands.floor; times = stands.times; taken_before = stands.taken_before; tries = stands.tries }) in
       let next_is = low_count_is LowEndStands low_shape low made a HighEndStands high b done all same fits.agrees ∙ r.high_count in
       let removed_is = high_count_is LowEndStands low_shape low made a HighEndStands high b done all same fits.agrees ∙ r.high_count in
       let messages : b.received ≡ payloads c.args.low.seed c.args.high.count =

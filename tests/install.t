@@ -46,7 +46,20 @@ What is completed, where the last word is the one that is being typed.
   12 7
   $ completed netpump serve two.toml 7 ''
   4294967295
+  $ completed netpump append two.toml 7 ''
+  4294967295
+  $ completed netpump messages two.toml ''
+  12 7
   $ completed netpump migrate two.toml 7 two.toml 1
   12
   $ completed netpump audit ''
   
+
+A copy of the examples finds the program in the PATH.
+
+  $ cp -r "$TESTDIR/../examples" copied
+  $ env -u NETPUMP copied/program | sed 's,.*/bin/,BIN/,'
+  BIN/netpump
+  $ env -u NETPUMP PATH=/usr/bin:/bin copied/program
+  examples/program: there is no netpump in the PATH, and no repository here to build it from
+  [2]

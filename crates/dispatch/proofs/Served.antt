@@ -26,8 +26,7 @@ use Rattle.serving.specs.declared.session.SessionEnd.{SessionEnd}
 use Rattle.serving.specs.declared.session.SessionEnd.TheVariants as session_ends
 use Rattle.commands.specs.CommandEnds.{NamesFailed}
 use Rattle.commands.specs.LentDisks.{LeavesBut}
-use Rattle.dispatch.specs.Servings.{StopsAtShelf, end_of_workers, end_of_session, ServesFor, ServeComes}
-use Rattle.commands.specs.Tables.{HasRow}
+use Rattle.dispatch.specs.Servings.{DisksTell, FileTells, SourceTells, StopsAtShelf, GivesRow, end_of_workers, end_of_session, ServesFor, ServeComes}
 use Rattle.commands.specs.declared.command_end.CommandEnd.{CommandEnd}
 use Rattle.commands.specs.declared.command_end.CommandEnd.TheVariants.{Memory, Unread, Failed, Unwritten, Unconnected}
 use Rattle.commands.proofs.LentDisks.{rises_back}
@@ -162,17 +161,18 @@ pub no_key : (R Q : Type 0) (fault : KeyFault) → (fault ≡ key_faults.Failed 
 no_key R Q key_faults.Failed failed short = inl (failed refl)
 no_key R Q key_faults.Short failed short = inr (short refl)
 
-module _ {D L S : Type 0} (t : DoorsTell D L) (m : Meaning S) (looks : ℕ) (low_side high_side : SideTells D L) (written : Option (List ℕ)) (out_faults : ℕ) (before between after : Places)
-    (left now_left : Option (List ℕ)) (read_faults now_read_faults : ℕ) (file : Option (List ℕ)) (file_faults now_file_faults : ℕ) (fails : ℕ → Role → Type 0) (session : ℕ) (row : SessionRow) (end : CommandEnd) (mid : Option (List ℕ)) (mid_faults : ℕ) where
-  pub serves_row : NamesFailed fails session end → HasRow file session row → between ≡ before → LeavesBut between after row.id
-      → ServesFor t m looks low_side high_side written out_faults between after left now_left read_faults now_read_faults row end mid mid_faults
-      → ServeComes t m looks low_side high_side written out_faults before after left now_left read_faults now_read_faults file file_faults now_file_faults fails session end mid mid_faults
-  serves_row named has same others h = (
+-- what came of the row holds of the shelf as it was before the row was read
+module _ {D L S : Type 0} (t : DoorsTell D L) (looks : ℕ) (low_side high_side : SideTells D L) (d : DisksTell S) (written : Option (List ℕ)) (out_faults : ℕ)
+    (keys : SourceTells) (f : FileTells) (fails : ℕ → Role → Type 0) (session : ℕ) (row : SessionRow) (end : CommandEnd) (mid : Option (List ℕ)) (mid_faults : ℕ) where
+  pub serves_row : (before : Places) → d.before ≡ before → NamesFailed fails session end → GivesRow f session row → LeavesBut d.before d.after row.id
+      → ServesFor t looks low_side high_side d written out_faults keys row end mid mid_faults
+      → ServeComes t looks low_side high_side (record d { before = before }) written out_faults keys f fails session end mid mid_faults
+  serves_row before same named gives others h = (
     named,
     inr (
       row,
-      has,
-      subst (λ (places : Places). LeavesBut places after row.id) same others,
-      subst (λ (places : Places). ServesFor t m looks low_side high_side written out_faults places after left now_left read_faults now_read_faults row end mid mid_faults) same h,
+      gives,
+      subst (λ (places : Places). LeavesBut places d.after row.id) same others,
+      subst (λ (places : Places). ServesFor t looks low_side high_side (record d { before = places }) written out_faults keys row end mid mid_faults) same h,
     ),
   )

@@ -19,7 +19,7 @@ ghost use Rattle.dispatch.specs.LiveEnds.{EndsLive};
 ghost use Rattle.dispatch.specs.Racing.{IsRecordOf, EndsRace};
 ghost use Rattle.dispatch.specs.Receptions.{ReceiveComes};
 ghost use Rattle.dispatch.specs.Sendings.{SendComes};
-ghost use Rattle.dispatch.specs.Servings.{ServeComes};
+ghost use Rattle.dispatch.specs.Servings.{disks, file, source, ServeComes};
 
 use crate::append::append_session;
 use crate::batch_commands::refuse_words;
@@ -141,10 +141,10 @@ where
     // How each command ends.
     ensures race { (seed : ℕ) (count : ℕ) (times : List ℕ) → AreWordsOf (map string_bytes words.now.items) (commands.Race seed count (record { items = times }))
         → EndsRace (IsRecordOf seed count times (K.reads low.old.clock) (K.reads low.new.clock)) (O.written out.old) (O.written out.new) result }
-    ensures serve { (table : List ℕ) (session looks : ℕ) → AreWordsOf (map string_bytes words.now.items) (commands.Serve table session looks) → S.told.tells → S.Disk.told.tells
-        → EndsLive (ServeComes (doors P.Door.port P.Door.did P.Door.gives (links P.Link.gives P.Link.sent P.Link.faults)) S.Disk.told looks
-        (side P.did P.faults K.reads low.old low.new) (side P.did P.faults K.reads high.old high.new) (O.written out.old) (O.faults out.old) (S.told.disk shelf.old) (S.told.disk shelf.new)
-        (Q.left keys.old) (Q.left keys.new) (Q.faults keys.old) (Q.faults keys.new) (S.told.file shelf.old table) (S.told.faults shelf.old) (S.told.faults shelf.new) (FailsAt S.told S.Disk.told shelf.old shelf.new) session) (O.written out.new) (O.faults out.new) session result }
+    ensures serve { (table : List ℕ) (session looks : ℕ) → AreWordsOf (map string_bytes words.now.items) (commands.Serve table session looks)
+        → EndsLive (ServeComes (doors P.Door.port P.Door.did P.Door.gives (links P.Link.gives P.Link.sent P.Link.faults)) looks
+        (side P.did P.faults K.reads low.old low.new) (side P.did P.faults K.reads high.old high.new) (disks S.told S.Disk.told shelf.old shelf.new) (O.written out.old) (O.faults out.old)
+        (source Q.left Q.faults keys.old keys.new) (file S.told shelf.old shelf.new table) (FailsAt S.told S.Disk.told shelf.old shelf.new) session) (O.written out.new) (O.faults out.new) session result }
     ensures receive { (table : List ℕ) (session looks : ℕ) → AreWordsOf (map string_bytes words.now.items) (commands.Receive table session looks) → S.told.tells → S.Disk.told.tells
         → EndsLive (ReceiveComes (links P.Link.gives P.Link.sent P.Link.faults) looks (P.did high.old.ports) (P.did high.new.ports)
         (O.written out.old) (O.faults out.old) (S.told.file shelf.old table) (S.told.disk shelf.old) (S.told.disk shelf.new) (RecvFailsAt S.told S.Disk.told shelf.old shelf.new) session) (O.written out.new) (O.faults out.new) session result }

@@ -11,7 +11,7 @@ ghost use Rattle.script_replay.specs.Shelves.{AllAreBack};
 ghost use Rattle.serving.specs.Doors.{doors, links};
 ghost use Rattle.dispatch.specs.LiveEnds.{EndsLive};
 ghost use Rattle.commands.specs.LentDisks.{LeavesBut};
-ghost use Rattle.dispatch.specs.Servings.{end_of_workers, end_of_session, ServesWith, ServesFor, ServeComes};
+ghost use Rattle.dispatch.specs.Servings.{disks, file, source, end_of_workers, end_of_session, ServesWith, ServesFor, ServeComes};
 ghost use Rattle.commands.specs.declared.command_end.CommandEnd.TheVariants as ends;
 
 use command_line::TableName;
@@ -75,8 +75,8 @@ where
     P::Link: Send,
     P::Door: Send,
     requires lawful { IsLawfulRow row.now }
-    ensures serves { S.told.tells → S.Disk.told.tells → ServesWith (doors P.Door.port P.Door.did P.Door.gives (links P.Link.gives P.Link.sent P.Link.faults)) S.Disk.told looks
-        (side P.did P.faults K.reads low.old low.new) (side P.did P.faults K.reads high.old high.new) (O.written out.old) (O.faults out.old) (S.told.disk shelf.old) (S.told.disk shelf.new)
+    ensures serves { ServesWith (doors P.Door.port P.Door.did P.Door.gives (links P.Link.gives P.Link.sent P.Link.faults)) looks
+        (side P.did P.faults K.reads low.old low.new) (side P.did P.faults K.reads high.old high.new) (disks S.told S.Disk.told shelf.old shelf.new) (O.written out.old) (O.faults out.old)
         row.now key result (O.written out.new) (O.faults out.new) }
     ensures others { LeavesBut (S.told.disk shelf.old) (S.told.disk shelf.new) row.now.id }
     ensures readable { result ≡ ends.Unread → ⊥ }
@@ -124,9 +124,9 @@ where
     P::Link: Send,
     P::Door: Send,
     requires lawful { IsLawfulRow row.now }
-    ensures serves { S.told.tells → S.Disk.told.tells → ServesFor (doors P.Door.port P.Door.did P.Door.gives (links P.Link.gives P.Link.sent P.Link.faults)) S.Disk.told looks
-        (side P.did P.faults K.reads low.old low.new) (side P.did P.faults K.reads high.old high.new) (O.written out.old) (O.faults out.old) (S.told.disk shelf.old) (S.told.disk shelf.new)
-        (Q.left keys.old) (Q.left keys.new) (Q.faults keys.old) (Q.faults keys.new) row.now result (O.written out.new) (O.faults out.new) }
+    ensures serves { ServesFor (doors P.Door.port P.Door.did P.Door.gives (links P.Link.gives P.Link.sent P.Link.faults)) looks
+        (side P.did P.faults K.reads low.old low.new) (side P.did P.faults K.reads high.old high.new) (disks S.told S.Disk.told shelf.old shelf.new) (O.written out.old) (O.faults out.old)
+        (source Q.left Q.faults keys.old keys.new) row.now result (O.written out.new) (O.faults out.new) }
     ensures others { LeavesBut (S.told.disk shelf.old) (S.told.disk shelf.new) row.now.id }
     ensures read { result ≡ ends.Unread → Rose (Q.faults keys.old) (Q.faults keys.new) ⊎ IfSome (Q.left keys.old) (λ bytes. length bytes < 32) }
     ensures back { S.told.tells → AllAreBack (S.told.disk shelf.old) (S.told.disk shelf.new) }
@@ -168,9 +168,9 @@ where
     S::Disk: Send,
     P::Link: Send,
     P::Door: Send,
-    ensures comes { S.told.tells → S.Disk.told.tells → ServeComes (doors P.Door.port P.Door.did P.Door.gives (links P.Link.gives P.Link.sent P.Link.faults)) S.Disk.told looks
-        (side P.did P.faults K.reads low.old low.new) (side P.did P.faults K.reads high.old high.new) (O.written out.old) (O.faults out.old) (S.told.disk shelf.old) (S.told.disk shelf.new)
-        (Q.left keys.old) (Q.left keys.new) (Q.faults keys.old) (Q.faults keys.new) (S.told.file shelf.old table.now) (S.told.faults shelf.old) (S.told.faults shelf.new) (FailsAt S.told S.Disk.told shelf.old shelf.new) session result (O.written out.new) (O.faults out.new) }
+    ensures comes { ServeComes (doors P.Door.port P.Door.did P.Door.gives (links P.Link.gives P.Link.sent P.Link.faults)) looks
+        (side P.did P.faults K.reads low.old low.new) (side P.did P.faults K.reads high.old high.new) (disks S.told S.Disk.told shelf.old shelf.new) (O.written out.old) (O.faults out.old)
+        (source Q.left Q.faults keys.old keys.new) (file S.told shelf.old shelf.new table.now) (FailsAt S.told S.Disk.told shelf.old shelf.new) session result (O.written out.new) (O.faults out.new) }
     ensures read { result ≡ ends.Unread → Rose (S.told.faults shelf.old) (S.told.faults shelf.new)
         ⊎ (Rose (Q.faults keys.old) (Q.faults keys.new) ⊎ IfSome (Q.left keys.old) (λ bytes. length bytes < 32)) }
     ensures back { S.told.tells → AllAreBack (S.told.disk shelf.old) (S.told.disk shelf.new) }
@@ -215,9 +215,9 @@ where
     S::Disk: Send,
     P::Link: Send,
     P::Door: Send,
-    ensures ends { S.told.tells → S.Disk.told.tells → EndsLive (ServeComes (doors P.Door.port P.Door.did P.Door.gives (links P.Link.gives P.Link.sent P.Link.faults)) S.Disk.told looks
-        (side P.did P.faults K.reads low.old low.new) (side P.did P.faults K.reads high.old high.new) (O.written out.old) (O.faults out.old) (S.told.disk shelf.old) (S.told.disk shelf.new)
-        (Q.left keys.old) (Q.left keys.new) (Q.faults keys.old) (Q.faults keys.new) (S.told.file shelf.old table.now) (S.told.faults shelf.old) (S.told.faults shelf.new) (FailsAt S.told S.Disk.told shelf.old shelf.new) session) (O.written out.new) (O.faults out.new) session result }
+    ensures ends { EndsLive (ServeComes (doors P.Door.port P.Door.did P.Door.gives (links P.Link.gives P.Link.sent P.Link.faults)) looks
+        (side P.did P.faults K.reads low.old low.new) (side P.did P.faults K.reads high.old high.new) (disks S.told S.Disk.told shelf.old shelf.new) (O.written out.old) (O.faults out.old)
+        (source Q.left Q.faults keys.old keys.new) (file S.told shelf.old shelf.new table.now) (FailsAt S.told S.Disk.told shelf.old shelf.new) session) (O.written out.new) (O.faults out.new) session result }
     ensures back { S.told.tells → AllAreBack (S.told.disk shelf.old) (S.told.disk shelf.new) }
     ensures memory { result ≡ 1 → Appends (O.written out.old) (O.written out.new) [] }
     ensures read { result ≡ 3 → Rose (S.told.faults shelf.old) (S.told.faults shelf.new)

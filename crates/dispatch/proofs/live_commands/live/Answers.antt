@@ -12,7 +12,7 @@ use Rattle.dispatch.specs.LiveEnds.{EndsLive}
 use Rattle.dispatch.specs.Racing.{IsRecordOf, EndsRace}
 use Rattle.dispatch.specs.Receptions.{ReceiveComes}
 use Rattle.dispatch.specs.Sendings.{SendComes}
-use Rattle.dispatch.specs.Servings.{ServeComes}
+use Rattle.dispatch.specs.Servings.{disks, file, source, ServeComes}
 use Rattle.dispatch.proofs.Asked.{asks, asks_no_live, batch_alone, is_not, not_live, other, race_asked, serve_asked, receive_asked, send_asked, append_asked}
 use Rattle.dispatch.proofs.Caused.{told_not, exercise_not, race_memory}
 use Rattle.commands.specs.declared.command_end.CommandEnd.TheVariants as ends
@@ -70,8 +70,8 @@ returns-in-Serve g c =
       device = e.device;
       link = e.link;
       race = λ seed count times words. elim (other _ call a (commands.Race seed count (record { items = times })) refl words) [ ];
-      serve = λ table session looks words told tells. serve_asked (λ (t : List ℕ) (n l : ℕ). EndsLive (ServeComes (doors g.P.Door.Door.port g.P.Door.Door.did g.P.Door.Door.gives (links g.P.Link.Link.gives g.P.Link.Link.sent g.P.Link.Link.faults)) g.S.Disk.Disk.told l (side g.P.Ports.did g.P.Ports.faults g.K.Clock.reads c.args.low.now c.serve_table.new.low) (side g.P.Ports.did g.P.Ports.faults g.K.Clock.reads c.args.high.now c.serve_table.new.high) (g.O.Sink.written c.args.out.now) (g.O.Sink.faults c.args.out.now) (g.S.Shelf.told.disk c.args.shelf.now) (g.S.Shelf.told.disk c.serve_table.new.shelf) (g.Q.Source.left c.args.keys.now) (g.Q.Source.left c.serve_table.new.keys) (g.Q.Source.faults c.args.keys.now) (g.Q.Source.faults c.serve_table.new.keys) (g.S.Shelf.told.file c.args.shelf.now t) (g.S.Shelf.told.faults c.args.shelf.now) (g.S.Shelf.told.faults c.serve_table.new.shelf) (FailsAt g.S.Shelf.told g.S.Disk.Disk.told c.args.shelf.now c.serve_table.new.shelf) n) (g.O.Sink.written c.serve_table.new.out) (g.O.Sink.faults c.serve_table.new.out) n c.serve_table.result)
-          _ table _ session _ looks (e.ends told tells) call refl (a.only (commands.Serve table session looks) words);
+      serve = λ table session looks words. serve_asked (λ (t : List ℕ) (n l : ℕ). EndsLive (ServeComes (doors g.P.Door.Door.port g.P.Door.Door.did g.P.Door.Door.gives (links g.P.Link.Link.gives g.P.Link.Link.sent g.P.Link.Link.faults)) l (side g.P.Ports.did g.P.Ports.faults g.K.Clock.reads c.args.low.now c.serve_table.new.low) (side g.P.Ports.did g.P.Ports.faults g.K.Clock.reads c.args.high.now c.serve_table.new.high) (disks g.S.Shelf.told g.S.Disk.Disk.told c.args.shelf.now c.serve_table.new.shelf) (g.O.Sink.written c.args.out.now) (g.O.Sink.faults c.args.out.now) (source g.Q.Source.left g.Q.Source.faults c.args.keys.now c.serve_table.new.keys) (file g.S.Shelf.told c.args.shelf.now c.serve_table.new.shelf t) (FailsAt g.S.Shelf.told g.S.Disk.Disk.told c.args.shelf.now c.serve_table.new.shelf) n) (g.O.Sink.written c.serve_table.new.out) (g.O.Sink.faults c.serve_table.new.out) n c.serve_table.result)
+          _ table _ session _ looks e.ends call refl (a.only (commands.Serve table session looks) words);
       receive = λ table session looks words. elim (other _ call a (commands.Receive table session looks) refl words) [ ];
       send = λ table session looks words. elim (other _ call a (commands.Send table session looks) refl words) [ ];
       append = λ table session looks words. elim (other _ call a (commands.Append table session looks) refl words) [ ];
@@ -232,11 +232,11 @@ returns-in-Err-Memory g c = record {
   device = λ is. elim (is_not 1 7 1 refl refl is) [ ];
   link = λ is. elim (is_not 1 9 1 refl refl is) [ ];
   race = λ seed count times words. inr (inl (refl, search rules));
-  serve = λ table session looks words told tells. record {
+  serve = λ table session looks words. record {
     end = ends.Memory;
     mid = g.O.Sink.written c.args.out.now;
     mid_faults = g.O.Sink.faults c.args.out.now;
-    comes = (tt, inl ((tt, λ e. absurd (cc)), record { low_unused = is_unused _ _ _; high_unused = is_unused _ _ _; unwritten = refl; unchanged = λ name. refl }));
+    comes = (tt, inl ((tt, (λ e. absurd (cc)), λ told. tt), record { low_unused = is_unused _ _ _; high_unused = is_unused _ _ _; unwritten = refl; unchanged = λ told name. refl }));
     last = inl (refl, search rules);
     later = omega arith;
   };

@@ -1,4 +1,4 @@
-use Rattle.std.proofs.Common.{◌≡◌, List, ℕ, Err, inl, inr, refl, sym, subst, rules, arith}
+use Rattle.std.proofs.Common.{◌≡◌, List, ℕ, Err, inl, inr, refl, sym, ap, subst, rules, arith}
 use Rattle.relay_side.proofs.Unused.{is_unused}
 use Rattle.commands.specs.Tables.{HasRow, IsRowOf, IsTableEnd}
 use Rattle.commands.specs.declared.command_end.CommandEnd.{CommandEnd}
@@ -8,7 +8,8 @@ use Rattle.script_replay.specs.Failing.{FailsAt}
 use Rattle.script_replay.specs.Shelves.{AllAreBack, Places}
 use Rattle.commands.proofs.CommandEnds.{names_failed}
 use Rattle.commands.proofs.Failing.{fails_later}
-use Rattle.commands.proofs.TableRows.{stops_at_file}
+use Rattle.commands.proofs.TableRows.{stops_at_table}
+use Rattle.dispatch.specs.Servings.{disks, file}
 use Rattle.dispatch.proofs.Served.{serves_row, same_places}
 use Rattle.dispatch.proofs.serve.run_serve.Goals as goal
 
@@ -22,9 +23,9 @@ returns-in-Ok g c =
     subst (λ (n : ℕ). fails n role) r.id
     (fails_later g.S.Shelf.told g.S.Disk.Disk.told c.args.shelf.now c.row_in_file.new.shelf c.serve_keyed.new.shelf row.id role r.disks r.disk_faults (e.device role failed)) in
     record {
-      comes = λ told tells.
-          serves_row _ g.S.Disk.Disk.told _ _ _ _ _ (g.S.Shelf.told.disk c.args.shelf.now) (g.S.Shelf.told.disk c.row_in_file.new.shelf) (g.S.Shelf.told.disk c.serve_keyed.new.shelf) _ _ _ _ (g.S.Shelf.told.file c.args.shelf.now c.args.table.now) _ _ fails c.args.session row c.serve_keyed.result _ _ (names_failed fails c.args.session c.serve_keyed.result named)
-          (subst (λ (n : List ℕ). HasRow (g.S.Shelf.told.file c.args.shelf.now n) c.args.session row) c.as_str.ensures.value (r.row told)) r.disks c.serve_keyed.ensures.others (c.serve_keyed.ensures.serves told tells);
+      comes = serves_row _ _ _ _ (disks g.S.Shelf.told g.S.Disk.Disk.told c.row_in_file.new.shelf c.serve_keyed.new.shelf) _ _ _ (file g.S.Shelf.told c.args.shelf.now c.serve_keyed.new.shelf c.args.table.now) fails c.args.session row c.serve_keyed.result _ _
+          (g.S.Shelf.told.disk c.args.shelf.now) r.disks (names_failed fails c.args.session c.serve_keyed.result named)
+          (r.lawful, r.id, λ told. subst (λ (n : List ℕ). HasRow (g.S.Shelf.told.file c.args.shelf.now n) c.args.session row) c.as_str.ensures.value (r.row told)) e.others e.serves;
       read = λ unread. inr (e.read unread);
       back = λ told. subst (λ (places : Places). AllAreBack places (g.S.Shelf.told.disk c.serve_keyed.new.shelf)) r.disks (e.back told);
       memory = e.memory;
@@ -38,11 +39,15 @@ pub returns-in-Err : goal.returns-in-Err
 returns-in-Err g c =
     let r = c.in-Err.ensures in
     record {
-      comes = λ told tells. (
+      comes = (
         names_failed (FailsAt g.S.Shelf.told g.S.Disk.Disk.told c.args.shelf.now c.row_in_file.new.shelf) c.args.session c.in-Err.end (λ role failed. absurd (subst (λ (end : CommandEnd). IsTableEnd end) failed r.only)),
         inl (
-          stops_at_file (g.S.Shelf.told.file c.args.shelf.now c.args.table.now) (g.S.Shelf.told.faults c.args.shelf.now) (g.S.Shelf.told.faults c.row_in_file.new.shelf) c.args.session c.in-Err.end c.in-Err.ensures.only (subst (λ (n : List ℕ). IsRowOf (g.S.Shelf.told.file c.args.shelf.now n) c.args.session (Err c.in-Err.end)) c.as_str.ensures.value (c.in-Err.ensures.row told)) c.in-Err.ensures.read,
-          record { low_unused = is_unused _ _ _; high_unused = is_unused _ _ _; unwritten = refl; unchanged = same_places _ _ c.in-Err.ensures.disks },
+          (
+            r.only,
+            λ unread. r.read (ap Err unread),
+            λ told. stops_at_table (g.S.Shelf.told.file c.args.shelf.now c.args.table.now) c.args.session c.in-Err.end r.only (subst (λ (n : List ℕ). IsRowOf (g.S.Shelf.told.file c.args.shelf.now n) c.args.session (Err c.in-Err.end)) c.as_str.ensures.value (r.row told)),
+          ),
+          record { low_unused = is_unused _ _ _; high_unused = is_unused _ _ _; unwritten = refl; unchanged = λ told. same_places _ _ r.disks },
         ),
       );
       read = search rules;

@@ -14,10 +14,10 @@ use Rattle.dispatch.proofs.Served.{session_device, session_memory, session_reada
 use Rattle.dispatch.proofs.serve.serve_row.Goals as goal
 
 pub returns-in-Err-clause-serves : goal.returns-in-Err-clause-serves
-returns-in-Err-clause-serves g c = λ told tells.
+returns-in-Err-clause-serves g c =
     inl (
       pair_stops c.in-Err.not_taken.role c.in-Err.not_taken.fault c.untaken.result c.in-Err.ensures.role c.untaken.ensures.memory c.untaken.ensures.failed,
-      record { low_unused = is_unused _ _ _; high_unused = is_unused _ _ _; unwritten = refl; unchanged = c.in-Err.ensures.alike told },
+      record { low_unused = is_unused _ _ _; high_unused = is_unused _ _ _; unwritten = refl; unchanged = c.in-Err.ensures.alike },
     )
 
 pub put_pair_back-requires-clause-low : goal.put_pair_back-requires-clause-low
@@ -27,7 +27,7 @@ pub put_pair_back-requires-clause-high : goal.put_pair_back-requires-clause-high
 put_pair_back-requires-clause-high g c = is_out _ _ c.in-Ok.ensures.high_out
 
 pub returns-clause-serves : goal.returns-clause-serves
-returns-clause-serves g c = λ told tells.
+returns-clause-serves g c =
     let t = c.in-Ok.ensures in
     let s = c.serve_session-served in
     let b = c.put_pair_back.ensures in
@@ -39,27 +39,25 @@ returns-clause-serves g c = λ told tells.
         now_low = s.result.low;
         high = c.in-Ok.disks.high;
         now_high = s.result.high;
-        low_found = sym (read_in _ _ (t.low told));
-        low_left = sym (ap reading_in (b.low_back told));
-        high_found = sym (read_in _ _ (t.high told));
-        high_left = sym (ap reading_in (b.high_back told));
+        low_found = λ told. sym (read_in _ _ (t.low told));
+        low_left = λ told. sym (ap reading_in (b.low_back told));
+        high_found = λ told. sym (read_in _ _ (t.high told));
+        high_left = λ told. sym (ap reading_in (b.high_back told));
+        low_worker = s.ensures.low;
+        high_worker = s.ensures.high;
         opens = s.ensures.opens;
         wanting = s.ensures.wanting;
         unstarted = s.ensures.unstarted;
-        low_worker = s.ensures.low;
-        high_worker = s.ensures.high;
-        still = λ none.
-            let idle = s.ensures.idle none in
-            let still = s.ensures.still none tells in (
-              still.0,
-              still.1,
+        closed = λ none.
+            let same = s.ensures.closed none in
+            (still_unused g.P.Ports.did g.P.Ports.faults g.K.Clock.reads c.args.low.now _ same.0, still_unused g.P.Ports.did g.P.Ports.faults g.K.Clock.reads c.args.high.now _ same.1);
+        idle = λ none.
+            let idle = s.ensures.idle none in (
               ap g.O.Sink.written idle.2,
               subst (λ (k : g.row.K.Denot). Draws (g.K.Clock.reads c.args.low.now.clock) (g.K.Clock.reads k) []) (sym idle.0) (Draws-nil _),
               subst (λ (k : g.row.K.Denot). Draws (g.K.Clock.reads c.args.high.now.clock) (g.K.Clock.reads k) []) (sym idle.1) (Draws-nil _),
             );
-        closed = λ none.
-            let same = s.ensures.closed none in
-            (still_unused g.P.Ports.did g.P.Ports.faults g.K.Clock.reads c.args.low.now _ same.0, still_unused g.P.Ports.did g.P.Ports.faults g.K.Clock.reads c.args.high.now _ same.1);
+        still = s.ensures.still;
       },
     )
 

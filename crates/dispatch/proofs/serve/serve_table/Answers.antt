@@ -2,11 +2,11 @@ use Rattle.dispatch.proofs.LiveEnded.{read_ended, unwritten_ended, link_ended, n
 use Rattle.dispatch.proofs.serve.serve_table.Goals as goal
 
 pub returns-clause-ends : goal.returns-clause-ends
-returns-clause-ends g c = λ told tells. record {
+returns-clause-ends g c = record {
   end = c.run_serve-end.result;
   mid = g.O.Sink.written c.run_serve-end.new.out;
   mid_faults = g.O.Sink.faults c.run_serve-end.new.out;
-  comes = c.run_serve-end.ensures.comes told tells;
+  comes = c.run_serve-end.ensures.comes;
   last = c.finish.ensures.closes;
   later = c.finish.ensures.later;
 }

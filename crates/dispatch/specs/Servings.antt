@@ -14,8 +14,7 @@ use Rattle.relay_threads.specs.declared.rounds_end.RoundsEnd.{RoundsEnd}
 use Rattle.relay_threads.specs.declared.rounds_end.RoundsEnd.TheVariants.{Rounds, Device, RecordFailed}
 use Rattle.script_replay.specs.Shelves.{Places, reading_at, ReadsAlike}
 use Rattle.serving.specs.Doors.{DoorsTell, WantDoor, OpensAndShuts}
-use Rattle.serving.specs.HighServing.{HighServed}
-use Rattle.serving.specs.LowServing.{LowServed}
+use Rattle.serving.specs.Joined.{BothServed}
 use Rattle.serving.specs.Sessions.{IfEnded, OpensBy, has_run, is_opened}
 use Rattle.serving.specs.declared.session.SessionEnd.{SessionEnd}
 use Rattle.serving.specs.declared.session.SessionEnd.TheVariants as session_ends
@@ -103,8 +102,8 @@ module _ {D L S : Type 0} (t : DoorsTell D L) (looks : ℕ) (low_side high_side 
     pub unwritten : now_written ≡ written
     pub unchanged : d.tells → ReadsAlike d.before d.after
 
-  -- The session was opened over its two disks, and where both doors were too, each worker served: the low one with
-  -- the words of the key, and the high one with the hand that the low disk gives.
+  -- The session was opened over its two disks, and where both doors were too, both workers served, at the two ends
+  -- of one passage: the low one with the words of the key.
   pub record HasServed (row : SessionRow) (key : List ℕ) (end : SessionEnd) (now_written : Option (List ℕ)) (now_out_faults : ℕ) : Type 0 where
     pub low : S
     pub now_low : S
@@ -116,8 +115,7 @@ module _ {D L S : Type 0} (t : DoorsTell D L) (looks : ℕ) (low_side high_side 
     pub high_found : d.tells → d.meaning.reading high ≡ reading_at d.before row.id roles.High
     pub high_left : d.tells → d.meaning.reading now_high ≡ reading_at d.after row.id roles.High
     -- the two workers
-    pub low_worker : IfEnded end (λ ends. LowServed t d.meaning row looks key low_side written now_written out_faults now_out_faults low high now_low ends.low)
-    pub high_worker : IfEnded end (λ ends. HighServed t d.meaning row looks high_side low high now_high ends.high)
+    pub workers : IfEnded end (λ ends. BothServed t d.meaning row looks key low_side high_side written now_written out_faults now_out_faults low high now_low now_high ends)
     -- the other ends, by their causes, and what they leave
     pub opens : OpensBy d.meaning row low high now_low now_high end
     pub wanting : end ≡ session_ends.NoDoor → WantDoor low_side.ports high_side.ports row.low_port row.high_port

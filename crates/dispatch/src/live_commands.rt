@@ -90,8 +90,8 @@ fn run_race<R: Threads + Wait + Sync, P, K: Clock + Send, O: Sink + Send>(
 /// and `receive` at the high one. A race asks the low clock for the moment of each of its looks. It needs no shelf, port, key and
 /// script, and nothing of the high side. Where the clock and the sink tell, `EndsRace` says that what is written
 /// is the record of the looks that had these moments, and what a record has. `ServeComes` says over any shelf how
-/// serving comes to its end: what each worker did, at which door, by which clock and with which words
-/// (`LowServed`, `HighServed`); and, where the shelf and its disks tell, by which row of the file and over what the
+/// serving comes to its end: what each worker did, at which door, by which clock, with which words and at which end
+/// of their passage (`BothServed`); and, where the shelf and its disks tell, by which row of the file and over what the
 /// disks held. Where they tell, `SendComes` and `ReceiveComes` say what Low's sender and High's receiver did over
 /// the link that came, and `AppendComes` what Low's sender of a stream did over those that came. `docs/formats.md`
 /// has the lines.

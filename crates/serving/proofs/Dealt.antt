@@ -1,15 +1,15 @@
 -- The messages that an opening deals out, as the two processes begin with them.
 use Rattle.std.proofs.Common.{◌≡◌, ℕ, ◌+◌, ◌-◌, ◌≤◌, Bool, true, false, List, length, Option, Some, None, refl, sym, ap, ◌∙◌, arith}
-use Rattle.std.specs.Prelude.{◌==◌, if◌then◌else◌, is_some, IfSome}
+use Rattle.std.specs.Prelude.{◌==◌, if◌then◌else◌, is_some}
 use Rattle.pump_core.specs.Passage.{Low, High, ComesNext}
 use Rattle.pump_frame.specs.declared.frame.Item.{Item}
 use Rattle.low_process.specs.Ends.{number_offered}
-use Rattle.low_process.specs.Looks.{IsHand, opening_of}
+use Rattle.low_process.specs.Looks.{IsHand}
 use Rattle.disk_model.specs.Disk.{Meaning}
 use Rattle.pump_frame.specs.declared.row.SessionRow.{SessionRow}
 use Rattle.stable_buffer.specs.Stands.{LowStands, HighStands}
 use Rattle.recovery.specs.Deals.{HandsFit, IsDealt, number_of, numbered, passing}
-use Rattle.serving.specs.LowServing.{FindsLow}
+use Rattle.serving.specs.Finding.{AtOpening, FindsBoth}
 use Rattle.recovery.proofs.Refill.{passing_next}
 use Rattle.two_worlds.proofs.Opening.Restarting.{number_some}
 
@@ -30,12 +30,6 @@ pub comes_next : (capacity removed next : ℕ) (messages : List (List ℕ)) (hig
 comes_next capacity removed next messages high low wide count places fit =
     passing_next capacity removed next (number_offered next low) messages wide count places (offered low (next == removed + capacity) (next - 1) next fit.last)
 
--- the message in the high hand is the first that is not removed
-pub first_number : (hand : Option Item) (b : Bool) (removed : ℕ) → number_of hand ≡ (if b then Some removed else None) → IfSome hand (λ item. item.number ≡ removed)
-first_number None b removed is = tt
-first_number (Some x) true removed is = ap number_in is
-first_number (Some x) false removed is = absurd (cc)
-
 some_if : (b : Bool) (n : ℕ) → is_some (if b then Some n else None) ≡ b
 some_if true n = refl
 some_if false n = refl
@@ -44,17 +38,16 @@ some_if false n = refl
 held_is : (hand : Option Item) (b : Bool) (n : ℕ) → number_of hand ≡ (if b then Some n else None) → is_some hand ≡ b
 held_is hand b n is = sym (number_some hand) ∙ ap is_some is ∙ some_if b n
 
--- what the low worker finds
-pub finds_low : {S : Type 0} (m : Meaning S) (row : SessionRow) (removed next : ℕ) (messages : List (List ℕ)) (high low : Option Item) (before after : Low → High → Type 0) (disk high_disk : S)
-    → IsDealt row removed next messages high low before after → HandsFit row.capacity removed next high low → (m.tells → LowStands row next removed messages (m.reading disk)) → (m.tells → HighStands row removed (m.reading high_disk))
-    → FindsLow m row (opening_of next low) removed messages low disk high_disk
-finds_low m row removed next messages high low before after disk high_disk dealt fit stands high_stands = record {
-  opened = refl;
+-- what an opening finds
+pub finds_both : {S : Type 0} (m : Meaning S) (row : SessionRow) (o : AtOpening) (before after : Low → High → Type 0) (low high : S) → IsDealt row o.removed o.count o.messages o.high_hand o.low_hand before after
+    → HandsFit row.capacity o.removed o.count o.high_hand o.low_hand → (m.tells → LowStands row o.count o.removed o.messages (m.reading low)) → (m.tells → HighStands row o.removed (m.reading high)) → FindsBoth m row o low high
+finds_both m row o before after low high dealt fit low_stands high_stands = record {
+  low_stands = low_stands;
+  high_stands = high_stands;
   count = dealt.count;
   places = dealt.places;
-  held = held_is low (next == removed + row.capacity) (next - 1) fit.last;
-  in_hand = dealt.hands.last;
-  stands = λ told. (stands told, high_stands told);
+  held = held_is o.low_hand (o.count == o.removed + row.capacity) (o.count - 1) fit.last;
+  hands = dealt.hands;
 }
 
 -- where a message is in the hand, one is stored

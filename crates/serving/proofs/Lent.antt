@@ -1,8 +1,7 @@
 -- What becomes of a door that a side opened, and of what was lent with it.
-use Rattle.std.proofs.Common.{◌≡◌, ℕ, List, [], ◌∷◌, Option, Some, None, IfSome, refl, sym, subst}
+use Rattle.std.proofs.Common.{◌≡◌, ℕ, List, [], ◌∷◌, Option, Some, None, IfSome, sym, subst}
 use Rattle.std.proofs.lemmas.Option.{same_Some}
 use Rattle.disk_model.specs.Disk.{Meaning}
-use Rattle.pump_core.specs.Passage.{Shape, Low, High}
 use Rattle.pump_link.specs.Ports.{PortsStep, Listened, ShutDoor}
 use Rattle.pump_link.specs.Tells.{Grows}
 use Rattle.pump_link.proofs.Grown.{Grows-then}
@@ -12,6 +11,7 @@ use Rattle.relay_threads.specs.declared.rounds_end.RoundsEnd.{RoundsEnd}
 use Rattle.serving.specs.Doors.{DoorsTell, IsOpenedAndShut, OpensAndShuts}
 use Rattle.serving.specs.HighRuns.{HighDone, HighLent}
 use Rattle.serving.specs.LowRuns.{LowDone, LowLent}
+use Rattle.serving.specs.PassageEnds.{EndTells}
 use Rattle.serving.specs.declared.high_half.HighParts.{HighParts}
 use Rattle.serving.specs.declared.low_half.LowParts.{LowParts}
 
@@ -33,32 +33,27 @@ module _ {P K R L : Type 0} (did : P → List (PortsStep L R) → Type 0) (fault
       (Grows-then _ _ _ (Listened port door ∷ []) (ShutDoor shut ∷ []) listened shuts)
 
   module _ {S : Type 0} (t : DoorsTell R L) (m : Meaning S) (reads : K → List ℕ → Type 0) (rounds : ℕ) (end : RoundsEnd) (is_port : t.port door port) (fresh : t.did door []) (left : now_door ≡ None → last ≡ now.ports) where
-    pub low_lent : {W E : Type 0} (gives : W → List ℕ → Type 0) (stands : E → Low → High → Type 0) (shape : E → Shape) (written now_written : Option (List ℕ)) (tape_faults now_tape_faults : ℕ) (parts w : LowParts W S E)
-        → LowDone t m gives stands shape (side did faults reads (record { ports = mid; clock = old.clock }) now) written now_written tape_faults now_tape_faults rounds (Some door) now_door parts w end
-        → LowLent t m gives stands shape (side did faults reads old (record { ports = last; clock = now.clock })) written now_written tape_faults now_tape_faults port rounds parts w.store end
-    low_lent gives stands shape written now_written tape_faults now_tape_faults parts w done =
+    pub low_lent : {W E Place : Type 0} (gives : W → List ℕ → Type 0) (e : EndTells E Place) (written now_written : Option (List ℕ)) (tape_faults now_tape_faults : ℕ) (v w : LowParts W S E)
+        → LowDone t m gives e (side did faults reads (record { ports = mid; clock = old.clock }) now) written now_written tape_faults now_tape_faults rounds (Some door) now_door v w end
+        → LowLent t m gives e (side did faults reads old (record { ports = last; clock = now.clock })) written now_written tape_faults now_tape_faults port rounds v w end
+    low_lent gives e written now_written tape_faults now_tape_faults v w done =
         let is = same_Some door done.opened done.had in
         record {
           opened = done.opened;
           shut = done.shut;
-          now_parts = w;
-          store_is = refl;
           fresh = subst (λ (d : R). t.did d []) is fresh;
           is_port = subst (λ (d : R). t.port d port) is is_port;
           in_call = shut_by done.opened done.shut is done.has_none left done.did;
           ran = done.ran;
         }
 
-    pub high_lent : {H : Type 0} (stands : H → Low → High → Type 0) (parts w : HighParts S H)
-        → HighDone t m stands (side did faults reads (record { ports = mid; clock = old.clock }) now) rounds (Some door) now_door parts w end
-        → HighLent t m stands (side did faults reads old (record { ports = last; clock = now.clock })) port rounds parts w.store end
-    high_lent stands parts w done =
+    pub high_lent : {H Place : Type 0} (e : EndTells H Place) (v w : HighParts S H) → HighDone t m e (side did faults reads (record { ports = mid; clock = old.clock }) now) rounds (Some door) now_door v w end
+        → HighLent t m e (side did faults reads old (record { ports = last; clock = now.clock })) port rounds v w end
+    high_lent e v w done =
         let is = same_Some door done.opened done.had in
         record {
           opened = done.opened;
           shut = done.shut;
-          now_parts = w;
-          store_is = refl;
           fresh = subst (λ (d : R). t.did d []) is fresh;
           is_port = subst (λ (d : R). t.port d port) is is_port;
           in_call = shut_by done.opened done.shut is done.has_none left done.did;

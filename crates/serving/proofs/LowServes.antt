@@ -1,6 +1,8 @@
 -- What the low worker did, from the run of its half.
-use Rattle.std.proofs.Common.{◌≡◌, ℕ, ◌≤◌, Bool, true, false, List, [], ◌++◌, Option, Some, None, refl, sym, ap, ◌∙◌, subst, append_assoc, append-nil, arith}
-use Rattle.std.specs.Prelude.{Result, Ok, Err, OnOk, OnErr, is_err, is_some}
+use Rattle.std.proofs.Common.{◌≡◌, ℕ, ◌+◌, ◌-◌, ◌≤◌, Bool, true, false, List, [], ◌++◌, Option, Some, None, refl, sym, ap, ◌∙◌, subst, append_assoc, append-nil, arith}
+use Rattle.std.specs.Prelude.{Result, Ok, Err, OnOk, OnErr, is_err, is_some, map}
+use Rattle.std.specs.List.{All}
+use Rattle.std.specs.Option.{option_to_list}
 use Rattle.std.specs.Io.KnownBytes.{Appends}
 use Rattle.rand_chacha.specs.ChaCha.{ChaCha, key_of}
 use Rattle.delay_table.specs.Streams.{AreWords}
@@ -11,23 +13,21 @@ use Rattle.pump_frame.specs.declared.row.SessionRow.{SessionRow}
 use Rattle.pump_link.specs.Causes.{AppendsFront, HasCause}
 use Rattle.pump_link.proofs.Grown.{Grows-all, Draws-all}
 use Rattle.pump_core.specs.Exchanges.{Part, IsCut, count_after}
-use Rattle.pump_core.specs.History.{Opening}
-use Rattle.pump_core.specs.Passage.{Shape, Low, High, NeverFall}
+use Rattle.pump_core.specs.Passage.{Low, NeverFall, new_low, new_high}
 use Rattle.pump_core.specs.Standing.{State, phase_after}
 use Rattle.pump_core.proofs.Cuts.{one_cut}
 use Rattle.script_reader.specs.Grammar.{IsCount}
 use Rattle.script_reader.specs.Spelling.{line_text}
-use Rattle.stable_buffer.specs.Low.{StandsForCount, low_disk}
+use Rattle.stable_buffer.specs.Low.{StandsForCount, low_count, low_disk}
 use Rattle.stable_buffer.specs.declared.low.LowStore.{LowStore}
 use Rattle.low_process.specs.declared.values.Phase.{Phase}
 use Rattle.low_process.specs.declared.values.Phase.TheVariants as phases
-use Rattle.low_process.specs.declared.process.LowProcess.{LowProcess}
 use Rattle.low_process.specs.Ends.{StandsFitting}
-use Rattle.low_process.specs.Looks.{row_of, next_of, opening_of, is_down, is_down_in, phase_of}
+use Rattle.low_process.specs.Looks.{row_of, next_of, hand_of, is_down, is_down_in, phase_of}
 use Rattle.relay_threads.specs.Levels.{IsEndOf}
 use Rattle.relay_threads.specs.LowServes.{Lives}
 use Rattle.relay_threads.specs.LowStays.{AreStays, is_kept_by, stayed, words_in, text_in}
-use Rattle.relay_threads.specs.LowEnds.{HasStored}
+use Rattle.relay_threads.specs.LowEnds.{HasAll, HasStored}
 use Rattle.relay_threads.specs.PairsRead.{pairs_of}
 use Rattle.relay_threads.specs.Reaching.{Reaches}
 use Rattle.relay_threads.specs.RecordLines.{opening_line, coarse_text, first_text, looks_text, record_text}
@@ -40,8 +40,10 @@ use Rattle.relay_threads.specs.declared.rounds_end.RoundsEnd.TheVariants as ends
 use Rattle.relay_threads.proofs.LowReplays.{stays_readable}
 use Rattle.relay_threads.proofs.StoredMessages.{stands_for_last}
 use Rattle.serving.specs.Doors.{DoorsTell}
+use Rattle.serving.specs.Finding.{AtOpening, FindsBoth, between_hands, low_opening}
 use Rattle.serving.specs.LowRuns.{LowLent, found_in, opening_text}
-use Rattle.serving.specs.LowServing.{FindsLow, LowServed, is_lost}
+use Rattle.serving.specs.LowServing.{DidLow, LowServed, is_lost}
+use Rattle.serving.specs.PassageEnds.{EndTells}
 use Rattle.relay_side.specs.Sides.{SideTells}
 use Rattle.serving.specs.declared.low_half.LowParts.{LowParts}
 
@@ -94,120 +96,113 @@ lost_is (phases.Passing false) hand = refl
 lost_is (phases.Waiting number due) hand = refl
 lost_is phases.Down hand = refl
 
-module _ {D L S E : Type 0} (t : DoorsTell D L) (m : Meaning S) (stands : E → Low → High → Type 0) (shape : E → Shape) (row : SessionRow) (rounds : ℕ) (key : List ℕ) (side : SideTells D L)
-    (written now_written : Option (List ℕ)) (faults now_faults next : ℕ) (hand : Option Item) (parts : LowParts ChaCha S E) (was store : LowStore S) (disk high now_disk : S) (end : RoundsEnd)
-    (lent : LowLent t m words_given stands shape side written now_written faults now_faults row.low_port rounds parts store end)
-    (row_is : row_of parts.process ≡ row) (next_is : next_of parts.process ≡ next) (held_is : parts.is_held ≡ is_some hand)
-    (lives : Lives parts.process (opening_of next hand) []) (words_are : parts.words ≡ record { key = key_of key; stream = 0; word_pos = 0 })
-    (store_was : parts.store ≡ was) (now_is : now_disk ≡ low_disk store)
-    (removed : ℕ) (messages : List (List ℕ)) (found : FindsLow m row (opening_of next hand) removed messages hand disk high) (same : m.tells → m.reading (low_disk was) ≡ m.reading disk)
-    (counts : m.count disk ≤ m.count (low_disk was)) where
-  abbrev o : Opening
-  o = opening_of next hand
+module _ {D L S E Place : Type 0} (t : DoorsTell D L) (m : Meaning S) (e : EndTells E Place) (row : SessionRow) (rounds : ℕ) (key : List ℕ) (side : SideTells D L)
+    (written now_written : Option (List ℕ)) (faults now_faults : ℕ) (o : AtOpening) (v w : LowParts ChaCha S E) (was : LowStore S) (disk high now_disk : S) (end : RoundsEnd)
+    (lent : LowLent t m words_given e side written now_written faults now_faults row.low_port rounds v w end)
+    (row_is : row_of v.process ≡ row) (next_is : next_of v.process ≡ o.count) (hand_is : hand_of v.process ≡ o.low_hand) (held_is : v.is_held ≡ is_some o.low_hand)
+    (lived : Lives v.process (low_opening o) []) (words_are : v.words ≡ record { key = key_of key; stream = 0; word_pos = 0 }) (store_was : v.store ≡ was) (now_is : now_disk ≡ low_disk w.store)
+    (found : FindsBoth m row o disk high) (same : m.tells → m.reading (low_disk was) ≡ m.reading disk) (counts : m.count disk ≤ m.count (low_disk was)) where
+  abbrev made : List Made
+  made = stayed [] lent.ran.stays
 
-  abbrev p : LowProcess
-  p = parts.process
+  row_after : row_of w.process ≡ row
+  row_after = lent.ran.so.row ∙ row_is
 
-  abbrev q : LowProcess
-  q = lent.now_parts.process
-
-  row_before : row_of p ≡ row
-  row_before = row_is
-
-  row_after : row_of q ≡ row
-  row_after = lent.ran.so.row ∙ row_before
-
-  lived : Lives p o []
-  lived = lives
-
-  lives_on : Lives q o (stayed [] lent.ran.stays)
-  lives_on = lent.ran.so.lives o [] lived
-
-  next_before : next_of p ≡ next
-  next_before = next_is
-
-  held_before : parts.is_held ≡ is_some hand
-  held_before = held_is
-
-  words_before : parts.words ≡ record { key = key_of key; stream = 0; word_pos = 0 }
-  words_before = words_are
-
-  stands_for : m.tells → is_down q ≡ false → StandsForCount row (next_of q) (m.reading (low_disk lent.now_parts.store))
-  stands_for told up =
-      let has = lent.ran.store up in
-      subst (λ (x : SessionRow × ℕ). StandsForCount x.0 x.1 (m.reading (low_disk lent.now_parts.store))) (λ i. ((has.row ∙ row_after) i, has.count i)) (has.ready.stands told)
+  lives_on : Lives w.process (low_opening o) made
+  lives_on = lent.ran.so.lives (low_opening o) [] lived
 
   -- what is to be written is the record of all looks
-  record_is : opening_text parts ++ text_in (row_of p) lent.ran.stays ≡ record_text row o (stayed [] lent.ran.stays)
+  record_is : opening_text v ++ text_in (row_of v.process) lent.ran.stays ≡ record_text row (low_opening o) made
   record_is =
-      ap (λ (b : List ℕ). opening_text parts ++ b) (lent.ran.is_record o lived)
-      ∙ ap (λ (x : SessionRow × ℕ × Bool). first_text x.0 (record { count = x.1; is_held = x.2 }) ++ looks_text x.0 (record_of (stayed [] lent.ran.stays))) (λ i. (row_before i, next_before i, held_before i))
-      ∙ append_assoc (line_text (opening_line row o)) (coarse_text row) (looks_text row (record_of (stayed [] lent.ran.stays)))
+      ap (λ (b : List ℕ). opening_text v ++ b) (lent.ran.is_record (low_opening o) lived)
+      ∙ ap (λ (x : SessionRow × ℕ × Bool). first_text x.0 (record { count = x.1; is_held = x.2 }) ++ looks_text x.0 (record_of made)) (λ i. (row_is i, next_is i, held_is i))
+      ∙ append_assoc (line_text (opening_line row (low_opening o))) (coarse_text row) (looks_text row (record_of made))
 
-  begins : IsCount next (is_some hand) → BeginsReadable row o
-  begins =
-      subst (λ (x : SessionRow × ℕ × Bool). IsCount x.1 x.2 → BeginsReadable x.0 (record { count = x.1; is_held = x.2 })) (λ i. (row_before i, next_before i, held_before i)) lent.ran.begins
+  begins : IsCount o.count (is_some o.low_hand) → BeginsReadable row (low_opening o)
+  begins = subst (λ (x : SessionRow × ℕ × Bool). IsCount x.1 x.2 → BeginsReadable x.0 (record { count = x.1; is_held = x.2 })) (λ i. (row_is i, next_is i, held_is i)) lent.ran.begins
 
-  are_stays : AreStays row o [] lent.ran.stays
-  are_stays = subst (λ (r : SessionRow). AreStays r o [] lent.ran.stays) row_before (lent.ran.so.rule o [] lived)
+  are_stays : AreStays row (low_opening o) [] lent.ran.stays
+  are_stays = subst (λ (r : SessionRow). AreStays r (low_opening o) [] lent.ran.stays) row_is (lent.ran.so.rule (low_opening o) [] lived)
 
-  -- the disk at the end is that of the half
-  now_disk_is : low_disk lent.now_parts.store ≡ now_disk
-  now_disk_is = ap low_disk lent.store_is ∙ sym now_is
-
-  first_counts : m.count disk ≤ m.count (low_disk parts.store)
+  first_counts : m.count disk ≤ m.count (low_disk v.store)
   first_counts = subst (λ (x : LowStore S). m.count disk ≤ m.count (low_disk x)) (sym store_was) counts
+
+  -- ---- the disk ----
 
   abbrev lived_parts : List Part
   lived_parts = lives_on.stands.stands.parts
 
-  is_up : is_lost (phase_after row o lived_parts) ≡ false → is_down q ≡ false
+  is_up : is_lost (phase_after row (low_opening o) lived_parts) ≡ false → is_down w.process ≡ false
   is_up sound =
       let state = lives_on.stands.stands.state in
-      sym (lost_is q.phase q.hand.number) ∙ ap (λ (s : State). is_lost s.phase) state ∙ ap (λ (r : SessionRow). is_lost (phase_after r o lived_parts)) row_after ∙ sound
+      sym (lost_is w.process.phase w.process.hand.number) ∙ ap (λ (s : State). is_lost s.phase) state ∙ ap (λ (r : SessionRow). is_lost (phase_after r (low_opening o) lived_parts)) row_after ∙ sound
 
-  left_by : m.tells → is_lost (phase_after row o lived_parts) ≡ false → StandsForCount row (count_after o lived_parts) (m.reading now_disk)
+  left_by : m.tells → is_lost (phase_after row (low_opening o) lived_parts) ≡ false → StandsForCount row (count_after (low_opening o) lived_parts) (m.reading now_disk)
   left_by told sound =
-      subst (λ (x : ℕ × S). StandsForCount row x.0 (m.reading x.1)) (λ i. (ap (λ (s : State). s.next) lives_on.stands.stands.state i, now_disk_is i)) (stands_for told (is_up sound))
+      let has = lent.ran.store (is_up sound) in
+      let count_is : low_count w.store ≡ count_after (low_opening o) lived_parts = has.count ∙ ap (λ (s : State). s.next) lives_on.stands.stands.state in
+      subst (λ (x : SessionRow × ℕ × S). StandsForCount x.0 x.1 (m.reading x.2)) (λ i. ((has.row ∙ row_after) i, count_is i, sym now_is i)) (has.ready.stands told)
 
   -- .. and has the last of the messages that were found and stored
-  stands_first : m.tells → HasStored (row_of p) o [] removed messages (m.reading (low_disk parts.store))
-  stands_first told parts' cut =
-      let none : parts' ≡ [] = one_cut (row_of p) (life_made o []) parts' [] cut (record { are_parts = tt; looks = refl }) in
-      let all : messages ≡ messages ++ payloads (stored_in parts') = sym (append-nil messages) ∙ ap (λ (z : List Part). messages ++ payloads (stored_in z)) (sym none) in
-      let there : m.reading disk ≡ m.reading (low_disk parts.store) = sym (same told) ∙ ap (λ (z : LowStore S). m.reading (low_disk z)) (sym store_was) in
-      subst (λ (z : SessionRow × List (List ℕ) × List ℕ). StandsForLast z.0 removed z.1 z.2) (λ i. (sym row_is i, all i, there i))
-      (stands_for_last row next removed messages (m.reading disk) found.count (found.stands told).0)
+  stands_first : m.tells → HasStored (row_of v.process) (low_opening o) [] o.removed o.messages (m.reading (low_disk v.store))
+  stands_first told parts cut =
+      let none : parts ≡ [] = one_cut (row_of v.process) (life_made (low_opening o) []) parts [] cut (record { are_parts = tt; looks = refl }) in
+      let all : o.messages ≡ o.messages ++ payloads (stored_in parts) = sym (append-nil o.messages) ∙ ap (λ (z : List Part). o.messages ++ payloads (stored_in z)) (sym none) in
+      let there : m.reading disk ≡ m.reading (low_disk v.store) = sym (same told) ∙ ap (λ (z : LowStore S). m.reading (low_disk z)) (sym store_was) in
+      subst (λ (z : SessionRow × List (List ℕ) × List ℕ). StandsForLast z.0 o.removed z.1 z.2) (λ i. (sym row_is i, all i, there i))
+      (stands_for_last row o.count o.removed o.messages (m.reading disk) found.count (found.low_stands told))
 
-  stored_by : m.tells → is_lost (phase_after row o lived_parts) ≡ false → StandsForLast row removed (messages ++ payloads (stored_in lived_parts)) (m.reading now_disk)
+  -- the life that goes on from nothing
+  cut_on : IsCut (row_of w.process) (life_made (low_opening o) (made ++ [])) lived_parts
+  cut_on = subst (λ (z : List Made). IsCut (row_of w.process) (life_made (low_opening o) z) lived_parts) (sym (append-nil made)) lives_on.stands.stands.cut
+
+  stored_by : m.tells → is_lost (phase_after row (low_opening o) lived_parts) ≡ false → StandsForLast row o.removed (o.messages ++ payloads (stored_in lived_parts)) (m.reading now_disk)
   stored_by told sound =
-      let has = lent.ran.stores told (is_up sound) o [] removed messages lived (stands_first told) in
-      let made : List Made = stayed [] lent.ran.stays in
-      let cut : IsCut (row_of q) (life_made o (made ++ [])) lived_parts = subst (λ (z : List Made). IsCut (row_of q) (life_made o z) lived_parts) (sym (append-nil made)) lives_on.stands.stands.cut in
-      subst (λ (z : SessionRow × S). StandsForLast z.0 removed (messages ++ payloads (stored_in lived_parts)) (m.reading z.1)) (λ i. (row_after i, now_disk_is i)) (has lived_parts cut)
+      let has = lent.ran.stores told (is_up sound) (low_opening o) [] o.removed o.messages lived (stands_first told) in
+      subst (λ (z : SessionRow × S). StandsForLast z.0 o.removed (o.messages ++ payloads (stored_in lived_parts)) (m.reading z.1)) (λ i. (row_after i, sym now_is i)) (has lived_parts cut_on)
 
-  levels : IsEndOf stands shape parts.ends (row_of parts.process) → TellLevels row (stayed [] lent.ran.stays)
-  levels end =
-      subst (λ (z : SessionRow). TellLevels z (stayed [] lent.ran.stays)) row_before (lent.ran.levels end)
+  -- ---- the end of the passage ----
 
-  -- the end had read nothing before
-  rising : (l : Low) (h : High) → l.pairs ≡ [] → StandsFitting (stands parts.ends) parts.process l h → NeverFall (pairs_of (stayed [] lent.ran.stays))
-  rising l h none fits =
-      let read = lent.ran.does l h fits in
-      subst NeverFall (read.pairs_are ∙ ap (λ (ps : List (ℕ × ℕ)). ps ++ pairs_of (stayed [] lent.ran.stays)) none) (read.falls (subst NeverFall (sym none) tt))
+  abbrev first_low : Low
+  first_low = record new_low { forwarded = between_hands row o }
 
-  pub low_served : IsLawfulRow row → IsCount next (is_some hand) → IsEndOf stands shape parts.ends (row_of parts.process) → (l : Low) (h : High) → l.pairs ≡ [] → StandsFitting (stands parts.ends) parts.process l h
-      → LowServed t m row rounds key side written now_written faults now_faults disk high now_disk end
-  low_served lawful counted end_is_rows l h none fits = record {
-    opening = o;
-    removed = removed;
-    messages = messages;
-    hand = hand;
-    found = found;
+  abbrev first_items : List Item
+  first_items = between_hands row o ++ option_to_list o.low_hand
+
+  -- the end begins with what is between the hands, and the hand has the message behind
+  has_first : HasAll (row_of v.process) (low_opening o) [] first_items (between_hands row o) (hand_of v.process)
+  has_first parts cut =
+      let none : parts ≡ [] = one_cut (row_of v.process) (life_made (low_opening o) []) parts [] cut (record { are_parts = tt; looks = refl }) in
+      ap (λ (x : Option Item). between_hands row o ++ option_to_list x) hand_is ∙ sym (append-nil first_items) ∙ ap (λ (z : List Part). first_items ++ stored_in z) (sym none)
+
+  low_did : (e.shape v.ends).places ≡ row.capacity - 2 → StandsFitting (e.stands v.ends) v.process first_low new_high → (l : Low) × e.stands w.ends l new_high × DidLow row o made l
+  low_did places fits =
+      let done = lent.ran.does first_low new_high fits in
+      let all = done.all (low_opening o) [] first_items lived has_first in (
+        done.low,
+        done.stands.0,
+        record {
+          passed = done.passed;
+          items = (hand_of w.process, subst (λ (z : SessionRow × List Made). HasAll z.0 (low_opening o) z.1 first_items done.low.forwarded (hand_of w.process)) (λ i. (row_after i, append-nil made i)) all);
+          fulls = ap (λ (ts : List (ℕ × ℕ)). map (λ t. t.0) ts) done.tries_are ∙ done.fulls;
+          full = subst (λ (z : List (ℕ × ℕ) × ℕ). All (λ t. t.0 ≡ t.1 + z.1) z.0) (λ i. (sym done.tries_are i, places i)) done.full;
+          pairs = done.pairs_are;
+        },
+      )
+
+  -- its end had read nothing before
+  rising : StandsFitting (e.stands v.ends) v.process first_low new_high → NeverFall (pairs_of made)
+  rising fits =
+      let done = lent.ran.does first_low new_high fits in
+      subst NeverFall done.pairs_are (done.falls tt)
+
+  low_served : IsLawfulRow row → IsCount o.count (is_some o.low_hand) → IsEndOf e.stands e.shape v.ends (row_of v.process) → StandsFitting (e.stands v.ends) v.process first_low new_high → (l : Low) → DidLow row o made l
+      → LowServed t m row rounds key side written now_written faults now_faults o l disk now_disk end
+  low_served lawful counted end_is_rows fits l did = record {
     is_opened = lent.ran.is_opened;
     stays = lent.ran.stays;
     are = are_stays;
-    made = subst (λ (r : SessionRow). AreMade r o (stayed [] lent.ran.stays)) row_after lives_on.are_made;
+    made = subst (λ (r : SessionRow). AreMade r (low_opening o) made) row_after lives_on.are_made;
     ends = lent.ran.ends;
     at = record {
       opened = lent.opened;
@@ -219,16 +214,19 @@ module _ {D L S E : Type 0} (t : DoorsTell D L) (m : Meaning S) (stands : E → 
     };
     links = lent.ran.links;
     moments = lent.ran.moments;
-    words = subst (λ (s : ChaCha). words_given s (words_in lent.ran.stays)) words_before (Draws-all (words_given parts.words) (words_given lent.now_parts.words) (words_in lent.ran.stays) (no_words lent.now_parts.words) lent.ran.words);
+    words = subst (λ (s : ChaCha). words_given s (words_in lent.ran.stays)) words_are (Draws-all (words_given v.words) (words_given w.words) (words_in lent.ran.stays) (no_words w.words) lent.ran.words);
     tape = subst (Reaches (Appends written now_written) faults now_faults (is_kept_by (Some end))) record_is lent.ran.tape;
-    readable = record { opening = (begins counted).opening; coarse = (begins counted).coarse; looks = stays_readable row o lent.ran.stays lawful are_stays };
-    levels = levels end_is_rows;
-    rising = rising l h none fits;
-    left = λ told. (lived_parts, subst (λ (r : SessionRow). IsCut r (life_made o (stayed [] lent.ran.stays)) lived_parts) row_after lives_on.stands.stands.cut, λ sound. (left_by told sound, stored_by told sound));
-    device = counts_from (Some end) (m.count disk) (m.count (low_disk parts.store)) (m.count now_disk) first_counts
-        (subst (λ (x : S). CountsEnd (Some end) (m.count (low_disk parts.store)) (m.count x)) now_disk_is lent.ran.device);
+    readable = record { opening = (begins counted).opening; coarse = (begins counted).coarse; looks = stays_readable row (low_opening o) lent.ran.stays lawful are_stays };
+    levels = subst (λ (z : SessionRow). TellLevels z made) row_is (lent.ran.levels end_is_rows);
+    rising = rising fits;
+    did = did;
+    left = λ told. (lived_parts, subst (λ (r : SessionRow). IsCut r (life_made (low_opening o) made) lived_parts) row_after lives_on.stands.stands.cut, λ sound. (left_by told sound, stored_by told sound));
+    device = counts_from (Some end) (m.count disk) (m.count (low_disk v.store)) (m.count now_disk) first_counts (subst (λ (x : S). CountsEnd (Some end) (m.count (low_disk v.store)) (m.count x)) (sym now_is) lent.ran.device);
   }
 
-  -- the disk has not failed less often
-  pub low_counts : m.count disk ≤ m.count now_disk
-  low_counts = subst (λ (x : S). m.count disk ≤ m.count x) now_disk_is (omega (arith, first_counts, lent.ran.counts))
+  -- what it did, and what its end stands for then
+  pub low_done : IsLawfulRow row → IsCount o.count (is_some o.low_hand) → IsEndOf e.stands e.shape v.ends (row_of v.process) → (e.shape v.ends).places ≡ row.capacity - 2 → StandsFitting (e.stands v.ends) v.process first_low new_high
+      → (l : Low) × e.stands w.ends l new_high × LowServed t m row rounds key side written now_written faults now_faults o l disk now_disk end
+  low_done lawful counted end_is_rows places fits =
+      let (l, stands, did) = low_did places fits in
+      (l, stands, low_served lawful counted end_is_rows fits l did)

@@ -1,69 +1,19 @@
--- How a session that was opened, or not, comes to its end.
-use Rattle.std.proofs.Common.{◌≡◌, ◌⊎◌, ◌≤◌, ◌&&◌, Bool, true, false, None, inl, inr, refl, sym, ap, ◌∙◌, subst, arith}
+-- How a session comes to its end where its disks are not opened, or its workers don't run.
+use Rattle.std.proofs.Common.{◌≡◌, ◌⊎◌, ◌≤◌, ◌&&◌, ℕ, Bool, true, false, List, None, inl, inr, refl, sym, subst, arith}
+use Rattle.std.specs.Prelude.{Result, Ok, Err, IfOk, IfErr, OnErr}
 use Rattle.disk_model.specs.Disk.{Meaning}
 use Rattle.disk_model.specs.declared.name.Role.{Role}
 use Rattle.disk_model.specs.declared.name.Role.TheVariants as roles
 use Rattle.pump_frame.specs.declared.row.SessionRow.{SessionRow}
 use Rattle.recovery.specs.Calls.{Calls, CallsHigh, is_low, is_high}
 use Rattle.recovery.specs.Refusals.{refused_pump}
-use Rattle.serving.specs.Sessions.{IfEnded, OpensBy, RoseAt, end_of, has_run, is_opened}
-use Rattle.std.specs.Prelude.{Result, Ok, Err, IfOk, IfErr, OnErr}
+use Rattle.pump_link.specs.Ports.{PortsStep}
+use Rattle.relay_side.specs.Sides.{ports}
+use Rattle.relay_side.specs.declared.side.RelaySide.{RelaySide}
+use Rattle.serving.specs.Doors.{WantDoor, OpensAndShuts}
+use Rattle.serving.specs.Sessions.{RoseAt, SessionComes, end_unserved}
 use Rattle.serving.specs.declared.doors.NotServed.{NotServed}
 use Rattle.serving.specs.declared.doors.NotServed.TheVariants as not_served
-use Rattle.serving.specs.declared.doors.WorkersEnd.{WorkersEnd}
-use Rattle.serving.specs.declared.session.SessionEnd.{SessionEnd}
-use Rattle.serving.specs.declared.session.SessionEnd.TheVariants as ends
-
--- ---- opened: with doors or without ----
-
-module _ (o : Result WorkersEnd NotServed) (end : SessionEnd) (is : end ≡ end_of o) where
-  pub ended_so : (P Q : WorkersEnd → Type 0) → IfOk o Q → ((e : WorkersEnd) → Q e → P e) → IfEnded end P
-  ended_so P Q h f = subst (λ (x : SessionEnd). IfEnded x P) (sym is) (by_ends o h) where
-    by_ends : (x : Result WorkersEnd NotServed) → IfOk x Q → IfEnded (end_of x) P
-    by_ends (Err not_served.NoDoor) h = tt
-    by_ends (Err not_served.NoThread) h = tt
-    by_ends (Ok e) h = f e h
-
-  pub no_doors : (P : Type 0) → OnErr o P → has_run end ≡ false → P
-  no_doors P h none = by_ends o h (sym (ap has_run is) ∙ none) where
-    by_ends : (x : Result WorkersEnd NotServed) → OnErr x P → has_run (end_of x) ≡ false → P
-    by_ends (Err why) h none = h
-    by_ends (Ok e) h none = absurd (cc)
-
-  pub wants_door : (P : Type 0) → IfErr o (λ why. why ≡ not_served.NoDoor → P) → end ≡ ends.NoDoor → P
-  wants_door P h none = by_ends o h (sym is ∙ none) where
-    by_ends : (x : Result WorkersEnd NotServed) → IfErr x (λ why. why ≡ not_served.NoDoor → P) → end_of x ≡ ends.NoDoor → P
-    by_ends (Err not_served.NoDoor) h none = h refl
-    by_ends (Err not_served.NoThread) h none = absurd (cc)
-    by_ends (Ok e) h none = absurd (cc)
-
-  pub wants_thread : (P : Type 0) → IfErr o (λ why. why ≡ not_served.NoThread → P) → end ≡ ends.NoThread → P
-  wants_thread P h none = by_ends o h (sym is ∙ none) where
-    by_ends : (x : Result WorkersEnd NotServed) → IfErr x (λ why. why ≡ not_served.NoThread → P) → end_of x ≡ ends.NoThread → P
-    by_ends (Err not_served.NoDoor) h none = absurd (cc)
-    by_ends (Err not_served.NoThread) h none = h refl
-    by_ends (Ok e) h none = absurd (cc)
-
-  pub always_opened : is_opened end ≡ false → ⊥
-  always_opened none = by_ends o (sym (ap is_opened is) ∙ none) where
-    by_ends : (x : Result WorkersEnd NotServed) → is_opened (end_of x) ≡ false → ⊥
-    by_ends (Err not_served.NoDoor) none = cc
-    by_ends (Err not_served.NoThread) none = cc
-    by_ends (Ok e) none = cc
-
-  pub opens_so : {S : Type 0} (m : Meaning S) (row : SessionRow) (low high now_low now_high : S) → (m.tells → refused_pump row (m.reading low) (m.reading high) ≡ None) → OpensBy m row low high now_low now_high end
-  opens_so m row low high now_low now_high fine = subst (λ (x : SessionEnd). OpensBy m row low high now_low now_high x) (sym is) (by_ends o) where
-    by_ends : (x : Result WorkersEnd NotServed) → OpensBy m row low high now_low now_high (end_of x)
-    by_ends (Err not_served.NoDoor) = fine
-    by_ends (Err not_served.NoThread) = fine
-    by_ends (Ok e) = fine
-
--- so with doors or without
-pub both_ways : (o : Result WorkersEnd NotServed) (P : Type 0) (Q : WorkersEnd → Type 0) (R : Type 0) → OnErr o R → (R → P) → IfOk o Q → ((e : WorkersEnd) → Q e → P) → P
-both_ways (Err why) P Q R none f some g = f none
-both_ways (Ok e) P Q R none f some g = g e some
-
--- ---- refused ----
 
 -- the high disk has not failed less often
 pub high_calls : {S : Type 0} (m : Meaning S) (row : SessionRow) (low old new : S) (failed : Bool) → CallsHigh m row low old new failed → m.count old ≤ m.count new
@@ -79,3 +29,25 @@ rose_so m row roles.High true low high now_low now_high either low_calls (inl ca
 rose_so m row roles.High true low high now_low now_high either low_calls (inr left) failed = (let e = left.1 in absurd (cc))
 rose_so m row roles.High false low high now_low now_high either low_calls high_calls failed = absurd (cc)
 rose_so m row roles.Recv device low high now_low now_high either low_calls high_calls failed = elim either [ inl e ↦ absurd (cc) | inr e ↦ absurd (cc) ]
+
+-- ---- opened ----
+
+pub if_ok : {T F : Type 0} (r : Result T F) (x : T) (P : T → Type 0) → r ≡ Ok x → IfOk r P → P x
+if_ok r x P is h = subst (λ z. IfOk z P) is h
+
+pub if_err : {T F : Type 0} (r : Result T F) (x : F) (P : F → Type 0) → r ≡ Err x → IfErr r P → P x
+if_err r x P is h = subst (λ z. IfErr z P) is h
+
+pub on_err : {T F : Type 0} (r : Result T F) (x : F) (P : Type 0) → r ≡ Err x → OnErr r P → P
+on_err r x P is h = subst (λ z. OnErr z P) is h
+
+module _ {P K R L O S : Type 0} (did : P → List (PortsStep L R) → Type 0) (faults : P → ℕ) (m : Meaning S) (row : SessionRow) (low_side high_side now_low_side now_high_side : RelaySide P K) (tape now_tape : O) (low high now_low now_high : S)
+    (fine : m.tells → refused_pump row (m.reading low) (m.reading high) ≡ None) (idle : (now_low_side.clock ≡ low_side.clock) × (now_high_side.clock ≡ high_side.clock) × (now_tape ≡ tape))
+    (still : m.tells → (m.reading now_low ≡ m.reading low) × (m.reading now_high ≡ m.reading high)) (counts : (m.count low ≤ m.count now_low) × (m.count high ≤ m.count now_high)) where
+  -- no worker ran
+  pub unserved_comes : (why : NotServed)
+      → (why ≡ not_served.NoDoor → WantDoor (ports did faults low_side.ports now_low_side.ports) (ports did faults high_side.ports now_high_side.ports) row.low_port row.high_port)
+      → (why ≡ not_served.NoThread → OpensAndShuts (ports did faults low_side.ports now_low_side.ports) row.low_port × OpensAndShuts (ports did faults high_side.ports now_high_side.ports) row.high_port)
+      → SessionComes did faults m row low_side high_side now_low_side now_high_side tape now_tape low high now_low now_high (end_unserved why)
+  unserved_comes not_served.NoDoor wanting unstarted = record { opens = fine; wanting = λ e. wanting refl; unstarted = λ e. absurd (cc); closed = λ e. absurd (cc); idle = λ e. idle; still = λ e. still; counts = counts }
+  unserved_comes not_served.NoThread wanting unstarted = record { opens = fine; wanting = λ e. absurd (cc); unstarted = λ e. unstarted refl; closed = λ e. absurd (cc); idle = λ e. idle; still = λ e. still; counts = counts }

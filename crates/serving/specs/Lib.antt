@@ -1,9 +1,12 @@
 pub mod Doors
+pub mod Finding
 pub mod HighRuns
 pub mod HighServing
+pub mod Joined
 pub mod LowEnds
 pub mod LowRuns
 pub mod LowServing
+pub mod PassageEnds
 pub mod Replayed
 pub mod Sessions
 pub mod WorkerEnds

@@ -6,10 +6,8 @@ use Rattle.disk_model.specs.Disk.{Meaning}
 use Rattle.pump_link.specs.Ports.{ShutDoor}
 use Rattle.pump_link.specs.Tells.{Draws, Grows}
 use Rattle.pump_core.specs.History.{Opening}
-use Rattle.pump_core.specs.Passage.{Shape, Low, High}
 use Rattle.script_reader.specs.Grammar.{IsCount}
 use Rattle.stable_buffer.specs.Low.{low_disk}
-use Rattle.stable_buffer.specs.declared.low.LowStore.{LowStore}
 use Rattle.low_process.specs.Looks.{row_of, next_of}
 use Rattle.low_process.specs.Whole.{HasStore}
 use Rattle.relay_threads.specs.Levels.{IsEndOf}
@@ -23,6 +21,7 @@ use Rattle.relay_threads.specs.Workers.{CountsEnd}
 use Rattle.relay_threads.specs.declared.rounds_end.RoundsEnd.{RoundsEnd}
 use Rattle.serving.specs.Doors.{DoorsTell, IsOpenedAndShut}
 use Rattle.serving.specs.LowEnds.{EndsLow}
+use Rattle.serving.specs.PassageEnds.{EndTells, IsStillOf}
 use Rattle.relay_side.specs.Sides.{SideTells}
 use Rattle.serving.specs.declared.low_half.LowParts.{LowParts}
 
@@ -35,7 +34,7 @@ abbrev pub opening_text : {W S E : Type 0} → LowParts W S E → List ℕ
 opening_text parts = first_text (row_of parts.process) (found_in parts)
 
 -- the stays at its door, which was the one and is the other, lead from these parts to those
-pub record LowRan {R L W S E : Type 0} (t : DoorsTell R L) (m : Meaning S) (gives : W → List ℕ → Type 0) (stands : E → Low → High → Type 0) (shape : E → Shape) (reads now_reads : List ℕ → Type 0)
+pub record LowRan {R L W S E Place : Type 0} (t : DoorsTell R L) (m : Meaning S) (gives : W → List ℕ → Type 0) (e : EndTells E Place) (reads now_reads : List ℕ → Type 0)
     (written now_written : Option (List ℕ)) (faults now_faults rounds : ℕ) (opened shut : R) (v w : LowParts W S E) (end : RoundsEnd) : Type 0 where
   pub is_opened : Bool
   pub stays : List (Stay L)
@@ -49,8 +48,9 @@ pub record LowRan {R L W S E : Type 0} (t : DoorsTell R L) (m : Meaning S) (give
   pub words : Draws (gives v.words) (gives w.words) (words_in stays)
   pub tape : Reaches (Appends written now_written) faults now_faults (is_kept_by (Some end)) (opening_text v ++ text_in (row_of v.process) stays)
   pub begins : IsCount (found_in v).count (found_in v).is_held → BeginsReadable (row_of v.process) (found_in v)
-  pub levels : IsEndOf stands shape v.ends (row_of v.process) → TellLevels (row_of v.process) (stayed [] stays)
-  pub does : DoesSo stands shape v.ends w.ends v.process w.process (stayed [] stays)
+  pub levels : IsEndOf e.stands e.shape v.ends (row_of v.process) → TellLevels (row_of v.process) (stayed [] stays)
+  pub still : IsStillOf e v.ends w.ends
+  pub does : DoesSo e.stands e.shape v.ends w.ends v.process w.process (stayed [] stays)
   pub stores : StoresSo m v.store w.store v.process w.process (stayed [] stays)
   pub is_record : (o : Opening) → Lives v.process o [] → IsRecord (row_of v.process) stays
   pub store : HasStore m w.process w.store
@@ -58,23 +58,21 @@ pub record LowRan {R L W S E : Type 0} (t : DoorsTell R L) (m : Meaning S) (give
   pub device : CountsEnd (Some end) (m.count (low_disk v.store)) (m.count (low_disk w.store))
 
 -- .. at the door that the half had, which it has no more: it was shut, and nothing else was done at the ports of the side
-pub record LowDone {R L W S E : Type 0} (t : DoorsTell R L) (m : Meaning S) (gives : W → List ℕ → Type 0) (stands : E → Low → High → Type 0) (shape : E → Shape) (side : SideTells R L)
+pub record LowDone {R L W S E Place : Type 0} (t : DoorsTell R L) (m : Meaning S) (gives : W → List ℕ → Type 0) (e : EndTells E Place) (side : SideTells R L)
     (written now_written : Option (List ℕ)) (faults now_faults rounds : ℕ) (door now_door : Option R) (v w : LowParts W S E) (end : RoundsEnd) : Type 0 where
   pub opened : R
   pub shut : R
   pub had : door ≡ Some opened
   pub has_none : now_door ≡ None
   pub did : Grows side.ports.did side.ports.now_did (ShutDoor shut ∷ [])
-  pub ran : LowRan t m gives stands shape side.reads side.now_reads written now_written faults now_faults rounds opened shut v w end
+  pub ran : LowRan t m gives e side.reads side.now_reads written now_written faults now_faults rounds opened shut v w end
 
--- .. of these parts, at a door of this port that was opened and shut
-pub record LowLent {R L W S E : Type 0} (t : DoorsTell R L) (m : Meaning S) (gives : W → List ℕ → Type 0) (stands : E → Low → High → Type 0) (shape : E → Shape) (side : SideTells R L)
-    (written now_written : Option (List ℕ)) (faults now_faults port rounds : ℕ) (parts : LowParts W S E) (store : LowStore S) (end : RoundsEnd) : Type 0 where
+-- .. at a door of this port that was opened and shut
+pub record LowLent {R L W S E Place : Type 0} (t : DoorsTell R L) (m : Meaning S) (gives : W → List ℕ → Type 0) (e : EndTells E Place) (side : SideTells R L)
+    (written now_written : Option (List ℕ)) (faults now_faults port rounds : ℕ) (v w : LowParts W S E) (end : RoundsEnd) : Type 0 where
   pub opened : R
   pub shut : R
-  pub now_parts : LowParts W S E
-  pub store_is : now_parts.store ≡ store
   pub fresh : t.did opened []
   pub is_port : t.port opened port
   pub in_call : IsOpenedAndShut side.ports port opened shut
-  pub ran : LowRan t m gives stands shape side.reads side.now_reads written now_written faults now_faults rounds opened shut parts now_parts end
+  pub ran : LowRan t m gives e side.reads side.now_reads written now_written faults now_faults rounds opened shut v w end

@@ -1,5 +1,5 @@
 -- How a session that was to be served ended.
-use Rattle.std.specs.Prelude.{◌≡◌, Bool, true, false, None, Some, Result, Ok, Err}
+use Rattle.std.specs.Prelude.{◌≡◌, ℕ, ◌≤◌, Bool, true, false, List, None, Some}
 use Rattle.disk_model.specs.Disk.{Meaning}
 use Rattle.disk_model.specs.declared.name.Role.{Role}
 use Rattle.disk_model.specs.declared.name.Role.TheVariants as roles
@@ -7,17 +7,22 @@ use Rattle.pump_frame.specs.Counts.{Rose}
 use Rattle.pump_frame.specs.declared.row.SessionRow.{SessionRow}
 use Rattle.recovery.specs.Calls.{is_device}
 use Rattle.recovery.specs.Refusals.{refused_pump}
+use Rattle.pump_link.specs.Ports.{PortsStep}
+use Rattle.relay_side.specs.Sides.{ports}
+use Rattle.relay_side.specs.declared.side.RelaySide.{RelaySide}
+use Rattle.serving.specs.Doors.{WantDoor, OpensAndShuts}
 use Rattle.serving.specs.declared.doors.NotServed.{NotServed}
 use Rattle.serving.specs.declared.doors.NotServed.TheVariants as not_served
 use Rattle.serving.specs.declared.doors.WorkersEnd.{WorkersEnd}
+use Rattle.serving.specs.declared.session.ServedOver.{ServedOver}
+use Rattle.serving.specs.declared.session.ServedOver.TheVariants as over
 use Rattle.serving.specs.declared.session.SessionEnd.{SessionEnd}
 use Rattle.serving.specs.declared.session.SessionEnd.TheVariants.{Memory, Refused, NoDoor, NoThread, Ended}
 
--- the end, by that of the workers, or by why they did not run
-abbrev pub end_of : Result WorkersEnd NotServed → SessionEnd
-end_of (Err not_served.NoDoor) = NoDoor
-end_of (Err not_served.NoThread) = NoThread
-end_of (Ok ends) = Ended ends
+-- the end, by why the workers did not run
+abbrev pub end_unserved : NotServed → SessionEnd
+end_unserved not_served.NoDoor = NoDoor
+end_unserved not_served.NoThread = NoThread
 
 abbrev pub IfEnded : SessionEnd → (WorkersEnd → Type 0) → Type 0
 IfEnded (Ended ends) Holds = Holds ends
@@ -58,3 +63,35 @@ OpensBy m row low high now_low now_high NoDoor = m.tells → refused_pump row (m
 OpensBy m row low high now_low now_high NoThread = m.tells → refused_pump row (m.reading low) (m.reading high) ≡ None
 OpensBy m row low high now_low now_high (Ended ends) = m.tells → refused_pump row (m.reading low) (m.reading high) ≡ None
 OpensBy m row low high now_low now_high Memory = Unit {0}
+
+-- How a session came to its end, by the causes of each, and what it left. `did` and `faults` are what its ports tell.
+pub record SessionComes {P K R L O S : Type 0} (did : P → List (PortsStep L R) → Type 0) (faults : P → ℕ) (m : Meaning S) (row : SessionRow) (low_side high_side now_low_side now_high_side : RelaySide P K)
+    (tape now_tape : O) (low high now_low now_high : S) (end : SessionEnd) : Type 0 where
+  pub opens : OpensBy m row low high now_low now_high end
+  pub wanting : end ≡ NoDoor → WantDoor (ports did faults low_side.ports now_low_side.ports) (ports did faults high_side.ports now_high_side.ports) row.low_port row.high_port
+  pub unstarted : end ≡ NoThread → OpensAndShuts (ports did faults low_side.ports now_low_side.ports) row.low_port × OpensAndShuts (ports did faults high_side.ports now_high_side.ports) row.high_port
+  -- before the disks are opened nothing is done at either side, and before the workers run no clock is read, and
+  -- nothing is written
+  pub closed : is_opened end ≡ false → (now_low_side ≡ low_side) × (now_high_side ≡ high_side)
+  pub idle : has_run end ≡ false → (now_low_side.clock ≡ low_side.clock) × (now_high_side.clock ≡ high_side.clock) × (now_tape ≡ tape)
+  pub still : has_run end ≡ false → m.tells → (m.reading now_low ≡ m.reading low) × (m.reading now_high ≡ m.reading high)
+  pub counts : (m.count low ≤ m.count now_low) × (m.count high ≤ m.count now_high)
+
+-- ---- over two ends, which come back where workers had them ----
+
+abbrev pub end_in : {D L H : Type 0} → ServedOver D L H → SessionEnd
+end_in (over.Unserved served) = served.end
+end_in (over.Ended ends low high low_end high_end) = Ended ends
+
+abbrev pub low_in : {D L H : Type 0} → ServedOver D L H → D
+low_in (over.Unserved served) = served.low
+low_in (over.Ended ends low high low_end high_end) = low
+
+abbrev pub high_in : {D L H : Type 0} → ServedOver D L H → D
+high_in (over.Unserved served) = served.high
+high_in (over.Ended ends low high low_end high_end) = high
+
+-- where the workers ran, this is so of their ends and of the two ends of the passage
+abbrev pub IfEndsBack : {D L H : Type 0} → ServedOver D L H → (WorkersEnd → L → H → Type 0) → Type 0
+IfEndsBack (over.Unserved served) Holds = has_run served.end ≡ false
+IfEndsBack (over.Ended ends low high low_end high_end) Holds = Holds ends low_end high_end

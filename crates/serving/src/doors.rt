@@ -10,6 +10,7 @@ ghost use Rattle.serving.specs.Doors.{doors, links, WantDoor, OpensAndShuts};
 ghost use Rattle.serving.specs.declared.doors.NotServed.TheVariants.{NoDoor, NoThread};
 ghost use Rattle.serving.specs.HighRuns.{HighLent};
 ghost use Rattle.serving.specs.LowRuns.{LowLent};
+ghost use Rattle.serving.specs.PassageEnds.{end_tells};
 ghost use Rattle.relay_side.specs.Sides.{ports, side};
 ghost use Rattle.serving.specs.WorkerEnds.{workers_end};
 
@@ -22,7 +23,6 @@ use pump_frame::{OutOfMemory, SessionRow};
 use pump_link::{Clock, Ports, PortsFault, Sink, Words};
 use relay_side::RelaySide;
 use relay_threads::{RoundsEnd, Watch};
-use stable_buffer::{HighStore, LowStore};
 use std::sync::Wait;
 use std::thread::Threads;
 
@@ -42,12 +42,12 @@ pub enum NotServed {
     NoThread,
 }
 
-/// The stores of a session, and how its workers ended, or why they did not run.
+/// What was lent to the workers of a session, and how they ended, or why they did not run.
 #[derive(Drop)]
-pub struct ServedStores<D> {
+pub struct ServedParts<W, D, L, H> {
     pub ends: Result<WorkersEnd, NotServed>,
-    pub low: LowStore<D>,
-    pub high: HighStore<D>,
+    pub low: LowParts<W, D, L>,
+    pub high: HighParts<D, H>,
 }
 
 // Opens the doors of both ports of the row, the low side's first. Where the high side's is wanting, the low
@@ -117,7 +117,7 @@ pub fn serve_doors<
     tape: &mut O,
     watch: &V,
     rounds: u32,
-) -> ServedStores<D>
+) -> ServedParts<W, D, L, H>
 where
     P::Link: Send,
     P::Door: Send,
@@ -126,23 +126,23 @@ where
     requires low_order { low_last low.process ≤ K.floor low_side.old.clock }
     requires high { HighReady D.told high.process high.store (H.stands high.ends) }
     requires high_order { high_last high.process ≤ K.floor high_side.old.clock }
-    ensures low { IfOk result.ends (λ ends. LowLent (doors P.Door.port P.Door.did P.Door.gives (links P.Link.gives P.Link.sent P.Link.faults)) D.told W.gives L.stands L.shape
+    ensures low { IfOk result.ends (λ ends. LowLent (doors P.Door.port P.Door.did P.Door.gives (links P.Link.gives P.Link.sent P.Link.faults)) D.told W.gives (end_tells L.stands L.shape L.place)
         (side P.did P.faults K.reads low_side.old low_side.new) (O.written tape.old) (O.written tape.new) (O.faults tape.old) (O.faults tape.new)
         row.now.low_port rounds low result.low ends.low) }
-    ensures high { IfOk result.ends (λ ends. HighLent (doors P.Door.port P.Door.did P.Door.gives (links P.Link.gives P.Link.sent P.Link.faults)) D.told H.stands
+    ensures high { IfOk result.ends (λ ends. HighLent (doors P.Door.port P.Door.did P.Door.gives (links P.Link.gives P.Link.sent P.Link.faults)) D.told (end_tells H.stands H.shape H.place)
         (side P.did P.faults K.reads high_side.old high_side.new) row.now.high_port rounds high result.high ends.high) }
     ensures wanting { IfErr result.ends (λ why. why ≡ NoDoor → WantDoor (ports P.did P.faults low_side.old.ports low_side.new.ports) (ports P.did P.faults high_side.old.ports high_side.new.ports) row.now.low_port row.now.high_port) }
     ensures unstarted { IfErr result.ends (λ why. why ≡ NoThread → OpensAndShuts (ports P.did P.faults low_side.old.ports low_side.new.ports) row.now.low_port × OpensAndShuts (ports P.did P.faults high_side.old.ports high_side.new.ports) row.now.high_port) }
-    ensures low_kept { OnErr result.ends (result.low ≡ low.store) }
-    ensures high_kept { OnErr result.ends (result.high ≡ high.store) }
+    ensures low_kept { OnErr result.ends (result.low ≡ low) }
+    ensures high_kept { OnErr result.ends (result.high ≡ high) }
     ensures unused { OnErr result.ends ((low_side.new.clock ≡ low_side.old.clock) × (high_side.new.clock ≡ high_side.old.clock) × (tape.new ≡ tape.old)) }
 {
     let Ok((low_door, high_door)) = open_doors(&mut low_side.ports, &mut high_side.ports, row)
     else {
-        return ServedStores {
+        return ServedParts {
             ends: Err(NotServed::NoDoor),
-            low: low.store,
-            high: high.store,
+            low,
+            high,
         };
     };
     let mut low_half = LowHalf {
@@ -177,9 +177,9 @@ where
     } = high_half;
     shut_left(&mut low_side.ports, low_door);
     shut_left(&mut high_side.ports, high_door);
-    ServedStores {
+    ServedParts {
         ends: workers_end(served, low_end, high_end),
-        low: low.store,
-        high: high.store,
+        low,
+        high,
     }
 }

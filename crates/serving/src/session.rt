@@ -1,15 +1,16 @@
 // A session is served over its two disks.
-ghost use Rattle.std.specs.Prelude.{◌≡◌, ◌+◌, ◌-◌, ◌≤◌, false};
-ghost use Rattle.pump_core.specs.Passage.{Low, new_low, new_high};
+ghost use Rattle.std.specs.Prelude.{◌≡◌, ◌-◌};
+ghost use Rattle.pump_core.specs.Passage.{Low, new_low, new_high, shape_of_row};
 ghost use Rattle.pump_frame.specs.Rows.{IsLawfulRow};
+ghost use Rattle.relay_ring.specs.RingEnds.{LowEndStands, HighEndStands, low_place, high_place, low_shape, high_shape};
+ghost use Rattle.relay_side.specs.Sides.{side};
 ghost use Rattle.relay_threads.specs.Levels.{IsEndOf};
-ghost use Rattle.serving.specs.Doors.{doors, links, WantDoor, OpensAndShuts};
-ghost use Rattle.serving.specs.HighServing.{HighServed};
-ghost use Rattle.serving.specs.LowServing.{LowServed};
-ghost use Rattle.serving.specs.Sessions.{IfEnded, end_of, has_run, is_opened, OpensBy};
-ghost use Rattle.relay_side.specs.Sides.{ports, side};
+ghost use Rattle.serving.specs.Doors.{doors, links};
+ghost use Rattle.serving.specs.Joined.{BothServed, EndsAsDone};
+ghost use Rattle.serving.specs.PassageEnds.{end_tells};
+ghost use Rattle.serving.specs.Sessions.{IfEnded, IfEndsBack, SessionComes, end_in, end_unserved, high_in, low_in};
 
-use crate::doors::{NotServed, WorkersEnd, serve_doors};
+use crate::doors::{NotServed, ServedParts, WorkersEnd, serve_doors};
 use crate::starting::{start_high, start_low};
 use crate::watched::WatchedLow;
 use disk_model::{Disk, Role};
@@ -17,7 +18,7 @@ use passage::{Calm, WaitHighEnd, WaitLowEnd};
 use pump_frame::SessionRow;
 use pump_link::{Clock, Ports, Sink};
 use recovery::{Why, open_pump_waiting};
-use relay_ring::RingPassage;
+use relay_ring::{RingHigh, RingLow, RingPassage};
 use relay_side::RelaySide;
 use relay_threads::Watch;
 use std::alloc::Global;
@@ -47,7 +48,22 @@ pub struct Served<D> {
     pub high: D,
 }
 
-// Over the two ends of a passage in which nothing was forwarded yet.
+// How a session came to its end over the two ends of a passage.
+#[derive(Drop)]
+pub enum ServedOver<D, L, H> {
+    // No worker ran.
+    Unserved(Served<D>),
+    // Both workers served, and ended so. The ends of the passage come back.
+    Ended {
+        ends: WorkersEnd,
+        low: D,
+        high: D,
+        low_end: L,
+        high_end: H,
+    },
+}
+
+// Over the two ends of a passage in which nothing was done yet.
 fn serve_over<
     T: Threads + Wait + Sync,
     P: Ports + Send,
@@ -70,7 +86,7 @@ fn serve_over<
     tape: &mut O,
     watch: &V,
     rounds: u32,
-) -> Served<D>
+) -> ServedOver<D, L, H>
 where
     P::Link: Send,
     P::Door: Send,
@@ -78,32 +94,24 @@ where
     requires shape { (L.shape low_ends).places ≡ row.now.capacity - 2 }
     requires averages { IsEndOf L.stands L.shape low_ends row.now }
     requires low_ends { L.stands low_ends new_low new_high }
-    requires high_ends { (l : Low) × H.stands high_ends l new_high }
-    ensures low { IfEnded result.end (λ ends. LowServed (doors P.Door.port P.Door.did P.Door.gives (links P.Link.gives P.Link.sent P.Link.faults)) D.told row.now rounds key
-        (side P.did P.faults K.reads low_side.old low_side.new) (O.written tape.old) (O.written tape.new) (O.faults tape.old) (O.faults tape.new)
-        low high result.low ends.low) }
-    ensures high { IfEnded result.end (λ ends. HighServed (doors P.Door.port P.Door.did P.Door.gives (links P.Link.gives P.Link.sent P.Link.faults)) D.told row.now rounds
-        (side P.did P.faults K.reads high_side.old high_side.new) low high result.high ends.high) }
-    ensures opens { OpensBy D.told row.now low high result.low result.high result.end }
-    ensures wanting { result.end ≡ SessionEnd.NoDoor → WantDoor (ports P.did P.faults low_side.old.ports low_side.new.ports) (ports P.did P.faults high_side.old.ports high_side.new.ports) row.now.low_port row.now.high_port }
-    ensures unstarted { result.end ≡ SessionEnd.NoThread → OpensAndShuts (ports P.did P.faults low_side.old.ports low_side.new.ports) row.now.low_port × OpensAndShuts (ports P.did P.faults high_side.old.ports high_side.new.ports) row.now.high_port }
-    ensures closed { is_opened result.end ≡ false → (low_side.new ≡ low_side.old) × (high_side.new ≡ high_side.old) }
-    ensures idle { has_run result.end ≡ false → (low_side.new.clock ≡ low_side.old.clock) × (high_side.new.clock ≡ high_side.old.clock) × (tape.new ≡ tape.old) }
-    ensures still { has_run result.end ≡ false → D.told.tells → (D.told.reading result.low ≡ D.told.reading low) × (D.told.reading result.high ≡ D.told.reading high) }
-    ensures counts { (D.told.count low ≤ D.told.count result.low) × (D.told.count high ≤ D.told.count result.high) }
-    ensures some_memory { result.end ≡ SessionEnd.Memory → ⊥ }
+    requires high_ends { (l : Low) → H.stands high_ends l new_high }
+    ensures ended { IfEndsBack result (λ ends low_end high_end. EndsAsDone (end_tells L.stands L.shape L.place) (end_tells H.stands H.shape H.place) row.now low_ends high_ends low_end high_end
+        (BothServed (doors P.Door.port P.Door.did P.Door.gives (links P.Link.gives P.Link.sent P.Link.faults)) D.told row.now rounds key
+        (side P.did P.faults K.reads low_side.old low_side.new) (side P.did P.faults K.reads high_side.old high_side.new) (O.written tape.old) (O.written tape.new) (O.faults tape.old) (O.faults tape.new)
+        low high (low_in result) (high_in result) ends)) }
+    ensures comes { SessionComes P.did P.faults D.told row.now low_side.old high_side.old low_side.new high_side.new tape.old tape.new low high (low_in result) (high_in result) (end_in result) }
 {
     let opened = match open_pump_waiting(rt, low, high, row, &mut low_ends) {
         Ok(opened) => opened,
         Err(refused) => {
-            return Served {
+            return ServedOver::Unserved(Served {
                 end: SessionEnd::Refused {
                     role: refused.role,
                     why: refused.why,
                 },
                 low: refused.low,
                 high: refused.high,
-            };
+            });
         }
     };
     let low = start_low(row, opened.low, opened.next, opened.low_hand, low_ends, key);
@@ -114,28 +122,114 @@ where
         opened.high_hand,
         high_ends,
     );
-    let served = serve_doors(rt, row, low_side, high_side, low, high, tape, watch, rounds);
-    Served {
-        end: end_of(served.ends),
-        low: served.low.into_disk(),
-        high: served.high.into_disk(),
+    let ServedParts { ends, low, high } = serve_doors(
+        rt, row, low_side, high_side, low, high, tape, watch, rounds,
+    );
+    let low_disk = low.store.into_disk();
+    let high_disk = high.store.into_disk();
+    match ends {
+        Ok(ends) => ServedOver::Ended {
+            ends,
+            low: low_disk,
+            high: high_disk,
+            low_end: low.ends,
+            high_end: high.ends,
+        },
+        Err(why) => ServedOver::Unserved(Served {
+            end: end_unserved(why),
+            low: low_disk,
+            high: high_disk,
+        }),
     }
 }
 
-fn end_of(ends: Result<WorkersEnd, NotServed>) -> SessionEnd
-    ensures { result ≡ end_of ends }
+fn end_unserved(why: NotServed) -> SessionEnd
+    ensures { result ≡ end_unserved why }
 {
-    match ends {
-        Err(NotServed::NoDoor) => SessionEnd::NoDoor,
-        Err(NotServed::NoThread) => SessionEnd::NoThread,
-        Ok(ends) => SessionEnd::Ended(ends),
+    match why {
+        NotServed::NoDoor => SessionEnd::NoDoor,
+        NotServed::NoThread => SessionEnd::NoThread,
+    }
+}
+
+// Over the two ends of one ring, at which nothing was done yet. Where the workers ran, the ends are joined again.
+fn serve_ring<
+    T: Threads + Wait + Sync,
+    P: Ports + Send,
+    K: Clock + Send,
+    D: Disk + Send,
+    O: Sink + Send,
+    V: Watch + Sync,
+>(
+    rt: &T,
+    row: &SessionRow,
+    low: D,
+    high: D,
+    low_ring: RingLow<'_>,
+    high_ring: RingHigh<'_>,
+    low_side: &mut RelaySide<P, K>,
+    high_side: &mut RelaySide<P, K>,
+    key: [u8; 32],
+    tape: &mut O,
+    watch: &V,
+    rounds: u32,
+) -> Served<D>
+where
+    P::Link: Send,
+    P::Door: Send,
+    requires lawful { IsLawfulRow row.now }
+    requires low { LowEndStands low_ring new_low new_high }
+    requires high { (l : Low) → HighEndStands high_ring l new_high }
+    requires place { low_place low_ring ≡ high_place high_ring }
+    requires low_shape { low_shape low_ring ≡ shape_of_row row.now }
+    requires high_shape { high_shape high_ring ≡ shape_of_row row.now }
+    ensures both { IfEnded result.end (λ ends. BothServed (doors P.Door.port P.Door.did P.Door.gives (links P.Link.gives P.Link.sent P.Link.faults)) D.told row.now rounds key
+        (side P.did P.faults K.reads low_side.old low_side.new) (side P.did P.faults K.reads high_side.old high_side.new) (O.written tape.old) (O.written tape.new) (O.faults tape.old) (O.faults tape.new)
+        low high result.low result.high ends) }
+    ensures comes { SessionComes P.did P.faults D.told row.now low_side.old high_side.old low_side.new high_side.new tape.old tape.new low high result.low result.high result.end }
+{
+    let low_end = WatchedLow {
+        ends: Calm(low_ring),
+        watch,
+    };
+    let served = serve_over(
+        rt,
+        row,
+        low,
+        high,
+        low_end,
+        Calm(high_ring),
+        low_side,
+        high_side,
+        key,
+        tape,
+        watch,
+        rounds,
+    );
+    match served {
+        ServedOver::Unserved(served) => served,
+        ServedOver::Ended {
+            ends,
+            low,
+            high,
+            low_end,
+            high_end,
+        } => {
+            RingPassage::rejoin(low_end.ends.0, high_end.0);
+            Served {
+                end: SessionEnd::Ended(ends),
+                low,
+                high,
+            }
+        }
     }
 }
 
 /// Serves a session: opens its two disks, listens on both ports of the row, first at the low side and then at
 /// the high one, and lets the two workers make at most `rounds` rounds each, side by side in two threads, each
 /// at the door and by the clock of its own side. The low worker writes the record, its opening line first, and
-/// draws its words from the stream of the key. Neither disk is formatted.
+/// draws its words from the stream of the key. Neither disk is formatted. The workers have the two ends of one
+/// passage, which are joined again when both have ended.
 ///
 /// Both disks come back, and both doors are shut, however it ends. `Memory`, `Refused`, `NoDoor` and
 /// `NoThread` come before anything is written and before a clock is read, and leave what the disks hold: `Refused` for the
@@ -166,20 +260,12 @@ where
     P::Link: Send,
     P::Door: Send,
     requires lawful { IsLawfulRow row.now }
-    // The two workers, each by itself.
-    ensures low { IfEnded result.end (λ ends. LowServed (doors P.Door.port P.Door.did P.Door.gives (links P.Link.gives P.Link.sent P.Link.faults)) D.told row.now rounds key
-        (side P.did P.faults K.reads low_side.old low_side.new) (O.written tape.old) (O.written tape.new) (O.faults tape.old) (O.faults tape.new)
-        low high result.low ends.low) }
-    ensures high { IfEnded result.end (λ ends. HighServed (doors P.Door.port P.Door.did P.Door.gives (links P.Link.gives P.Link.sent P.Link.faults)) D.told row.now rounds
-        (side P.did P.faults K.reads high_side.old high_side.new) low high result.high ends.high) }
-    // The other ends, by their causes, and what they leave.
-    ensures opens { OpensBy D.told row.now low high result.low result.high result.end }
-    ensures wanting { result.end ≡ SessionEnd.NoDoor → WantDoor (ports P.did P.faults low_side.old.ports low_side.new.ports) (ports P.did P.faults high_side.old.ports high_side.new.ports) row.now.low_port row.now.high_port }
-    ensures unstarted { result.end ≡ SessionEnd.NoThread → OpensAndShuts (ports P.did P.faults low_side.old.ports low_side.new.ports) row.now.low_port × OpensAndShuts (ports P.did P.faults high_side.old.ports high_side.new.ports) row.now.high_port }
-    ensures closed { is_opened result.end ≡ false → (low_side.new ≡ low_side.old) × (high_side.new ≡ high_side.old) }
-    ensures idle { has_run result.end ≡ false → (low_side.new.clock ≡ low_side.old.clock) × (high_side.new.clock ≡ high_side.old.clock) × (tape.new ≡ tape.old) }
-    ensures still { has_run result.end ≡ false → D.told.tells → (D.told.reading result.low ≡ D.told.reading low) × (D.told.reading result.high ≡ D.told.reading high) }
-    ensures counts { (D.told.count low ≤ D.told.count result.low) × (D.told.count high ≤ D.told.count result.high) }
+    // The two workers, at the two ends of one passage.
+    ensures both { IfEnded result.end (λ ends. BothServed (doors P.Door.port P.Door.did P.Door.gives (links P.Link.gives P.Link.sent P.Link.faults)) D.told row.now rounds key
+        (side P.did P.faults K.reads low_side.old low_side.new) (side P.did P.faults K.reads high_side.old high_side.new) (O.written tape.old) (O.written tape.new) (O.faults tape.old) (O.faults tape.new)
+        low high result.low result.high ends) }
+    // Each end by its causes, and what it leaves.
+    ensures comes { SessionComes P.did P.faults D.told row.now low_side.old high_side.old low_side.new high_side.new tape.old tape.new low high result.low result.high result.end }
 {
     let Ok(mut passage) = RingPassage::new(alloc, row) else {
         return Served {
@@ -189,22 +275,7 @@ where
         };
     };
     let (low_end, high_end) = passage.ends();
-    let low_end = WatchedLow {
-        ends: Calm(low_end),
-        watch,
-    };
-    serve_over(
-        rt,
-        row,
-        low,
-        high,
-        low_end,
-        Calm(high_end),
-        low_side,
-        high_side,
-        key,
-        tape,
-        watch,
-        rounds,
+    serve_ring(
+        rt, row, low, high, low_end, high_end, low_side, high_side, key, tape, watch, rounds,
     )
 }

@@ -6,8 +6,9 @@ ghost use Rattle.pump_frame.specs.Rows.{IsLawfulRow};
 ghost use Rattle.stable_buffer.specs.Low.{IsLowReady, low_count, low_row};
 ghost use Rattle.stable_buffer.specs.High.{IsHighReady, high_count};
 ghost use Rattle.low_process.specs.Ends.{number_offered, StandsFitting};
-ghost use Rattle.low_process.specs.Looks.{IsHand, opening_of, last_of as low_last, next_of, row_of as low_row_of, is_down};
+ghost use Rattle.low_process.specs.Looks.{IsHand, opening_of, last_of as low_last, next_of, row_of as low_row_of, hand_of, is_down};
 ghost use Rattle.low_process.specs.Ready.{Ready as LowReady};
+ghost use Rattle.high_process.specs.Ends.{StandsFitting as HighFitting};
 ghost use Rattle.high_process.specs.Looks.{IsHand as IsHighHand, StandsFor};
 ghost use Rattle.high_process.specs.Past.{fresh};
 ghost use Rattle.high_process.specs.Ready.{Ready as HighReady};
@@ -45,6 +46,7 @@ pub fn start_low<D: Disk, L: WaitLowEnd>(
     ensures last { low_last result.process ≡ 0 }
     ensures row { low_row_of result.process ≡ row.now }
     ensures next { next_of result.process ≡ next }
+    ensures hand { hand_of result.process ≡ hand }
     ensures held { result.is_held ≡ is_some hand }
     ensures counted { IsCount next (is_some hand) }
     ensures lives { Lives result.process (opening_of next hand) [] }
@@ -76,12 +78,14 @@ pub fn start_high<D: Disk, H: WaitHighEnd>(
     requires ready { IsHighReady D.told store }
     requires count { high_count store ≡ removed }
     requires hand { IsHighHand removed hand }
-    requires ends { (l : Low) × H.stands ends l new_high }
+    requires ends { (l : Low) → H.stands ends l new_high }
     ensures ready { HighReady D.told result.process result.store (H.stands result.ends) }
     ensures last { high_last result.process ≡ 0 }
     ensures row { high_row_of result.process ≡ row.now }
     ensures stands { StandsFor result.process (fresh removed hand) }
     ensures store { result.store ≡ store }
+    ensures kept { result.ends ≡ ends }
+    ensures fits { (l : Low) → HighFitting (H.stands result.ends) result.process l new_high }
 {
     let process = HighProcess::open(row, removed, hand);
     HighParts {

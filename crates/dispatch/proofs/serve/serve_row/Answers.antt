@@ -43,21 +43,20 @@ returns-clause-serves g c =
         low_left = λ told. sym (ap reading_in (b.low_back told));
         high_found = λ told. sym (read_in _ _ (t.high told));
         high_left = λ told. sym (ap reading_in (b.high_back told));
-        low_worker = s.ensures.low;
-        high_worker = s.ensures.high;
-        opens = s.ensures.opens;
-        wanting = s.ensures.wanting;
-        unstarted = s.ensures.unstarted;
+        workers = s.ensures.both;
+        opens = s.ensures.comes.opens;
+        wanting = s.ensures.comes.wanting;
+        unstarted = s.ensures.comes.unstarted;
         closed = λ none.
-            let same = s.ensures.closed none in
+            let same = s.ensures.comes.closed none in
             (still_unused g.P.Ports.did g.P.Ports.faults g.K.Clock.reads c.args.low.now _ same.0, still_unused g.P.Ports.did g.P.Ports.faults g.K.Clock.reads c.args.high.now _ same.1);
         idle = λ none.
-            let idle = s.ensures.idle none in (
+            let idle = s.ensures.comes.idle none in (
               ap g.O.Sink.written idle.2,
               subst (λ (k : g.row.K.Denot). Draws (g.K.Clock.reads c.args.low.now.clock) (g.K.Clock.reads k) []) (sym idle.0) (Draws-nil _),
               subst (λ (k : g.row.K.Denot). Draws (g.K.Clock.reads c.args.high.now.clock) (g.K.Clock.reads k) []) (sym idle.1) (Draws-nil _),
             );
-        still = s.ensures.still;
+        still = s.ensures.comes.still;
       },
     )
 
@@ -75,13 +74,13 @@ returns-clause-readable g c = λ is. session_readable c.serve_session-served.res
 pub returns-clause-memory : goal.returns-clause-memory
 returns-clause-memory g c = λ is.
     let s = c.serve_session-served in
-    let idle = s.ensures.idle (session_memory s.result.end (sym c.end_of_session.ensures ∙ is)) in
+    let idle = s.ensures.comes.idle (session_memory s.result.end (sym c.end_of_session.ensures ∙ is)) in
     subst (λ (o : g.row.O.Denot). Appends (g.O.Sink.written c.args.out.now) (g.O.Sink.written o) []) (sym idle.2) (Appends-nil _)
 
 pub returns-clause-unwritten : goal.returns-clause-unwritten
 returns-clause-unwritten g c = λ is.
     let s = c.serve_session-served in
-    session_unwritten s.result.end _ _ s.ensures.low (λ (ends : WorkersEnd) low unkept. low.tape.cause unkept) (sym c.end_of_session.ensures ∙ is)
+    session_unwritten s.result.end _ _ s.ensures.both (λ (ends : WorkersEnd) both unkept. both.low.tape.cause unkept) (sym c.end_of_session.ensures ∙ is)
 
 pub returns-clause-device : goal.returns-clause-device
 returns-clause-device g c = λ role is.
@@ -91,8 +90,8 @@ returns-clause-device g c = λ role is.
     let d = g.S.Disk.Disk.told in
     let id = c.args.row.now.id in
     let rose : RoseAt d role c.in-Ok.disks.low c.in-Ok.disks.high s.result.low s.result.high =
-    session_device d c.in-Ok.disks.low c.in-Ok.disks.high s.result.low s.result.high c.args.row.now s.result.end role s.ensures.opens
-    (if_ended s.result.end _ _ s.ensures.low (λ (ends : WorkersEnd) low. low.device)) (if_ended s.result.end _ _ s.ensures.high (λ (ends : WorkersEnd) high. high.device)) (sym c.end_of_session.ensures ∙ is) in (
+    session_device d c.in-Ok.disks.low c.in-Ok.disks.high s.result.low s.result.high c.args.row.now s.result.end role s.ensures.comes.opens
+    (if_ended s.result.end _ _ s.ensures.both (λ (ends : WorkersEnd) both. both.low.device)) (if_ended s.result.end _ _ s.ensures.both (λ (ends : WorkersEnd) both. both.high.device)) (sym c.end_of_session.ensures ∙ is) in (
       pair_rises d (g.S.Shelf.told.disk c.take_pair.new.shelf) id c.in-Ok.disks.low c.in-Ok.disks.high s.result.low s.result.high _ _ _ t.low_out t.high_out c.take_pair.ensures.later b.low_rises b.high_rises role rose,
       inr (pair_came_back g.S.Shelf.told d c.take_pair.new.shelf c.put_pair_back.new.shelf id c.in-Ok.disks.low c.in-Ok.disks.high s.result.low s.result.high t.low_out t.high_out b.low_back b.high_back role rose),
     )
@@ -103,10 +102,10 @@ returns-in-Err-clause-device g c = λ role is.
     untaken_names g.S.Shelf.told g.S.Disk.Disk.told c.args.shelf.now c.take_pair.new.shelf c.args.row.now.id c.in-Err.not_taken.role c.in-Err.not_taken.fault c.untaken.result c.untaken.ensures.memory c.untaken.ensures.failed e.cause e.asked role is
 
 pub returns-clause-link : goal.returns-clause-link
-returns-clause-link g c = λ is. wanting_rose _ _ _ _ (c.serve_session-served.ensures.wanting (session_link c.serve_session-served.result.end (sym c.end_of_session.ensures ∙ is)))
+returns-clause-link g c = λ is. wanting_rose _ _ _ _ (c.serve_session-served.ensures.comes.wanting (session_link c.serve_session-served.result.end (sym c.end_of_session.ensures ∙ is)))
 
 pub returns-clause-later : goal.returns-clause-later
 returns-clause-later g c =
     let s = c.serve_session-served in
-    either_way s.result.end _ _ s.ensures.low (λ (ends : WorkersEnd) low. low.tape.later)
-    (λ none. subst (λ (o : g.row.O.Denot). g.O.Sink.faults c.args.out.now ≤ g.O.Sink.faults o) (sym (s.ensures.idle none).2) (omega arith))
+    either_way s.result.end _ _ s.ensures.both (λ (ends : WorkersEnd) both. both.low.tape.later)
+    (λ none. subst (λ (o : g.row.O.Denot). g.O.Sink.faults c.args.out.now ≤ g.O.Sink.faults o) (sym (s.ensures.comes.idle none).2) (omega arith))

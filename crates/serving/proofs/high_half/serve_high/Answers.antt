@@ -13,6 +13,7 @@ returns g c =
       port = e.port;
       links = r.5;
       moments = r.6;
+      still = (e.shape, e.place);
       takes = r.7;
       device = e.device;
       store =

@@ -31,6 +31,7 @@ returns-then-is_err g c =
           c.row.ensures c.next-next.ensures c.is_err.ensures.value c.if-is_err.true w.err w.cause;
       begins = opening_reads _ _ parts c.row.ensures c.next-next.ensures w.reads;
       levels = λ end. tt;
+      still = (refl, refl);
       does = does_none g.L.LowSide.stands g.L.LowSide.shape parts.ends parts.process;
       stores = stores_none g.D.Disk.told parts.store parts.process;
       is_record = λ o lives. refl;
@@ -59,6 +60,7 @@ returns g c =
       begins = opening_reads _ _ c.args.parts.now c.row.ensures c.next-next.ensures w.reads;
       tape = reaches_behind (Appends (g.O.Sink.written c.args.tape.now) (g.O.Sink.written c.low_rounds.new.tape)) (Appends (g.O.Sink.written c.write_opening.new.tape) (g.O.Sink.written c.low_rounds.new.tape)) _ _ _ _ (opening_text c.args.parts.now) _ w.cause.later (λ rest more. Appends-trans _ _ _ _ rest opening more) tape;
       levels = levels;
+      still = (r.shape, r.place);
       does = does;
       stores = stores;
       is_record = is_record;

@@ -1,0 +1,34 @@
+-- What both workers of a session do, at the two ends of one passage.
+use Rattle.std.specs.Prelude.{ℕ, List, Option}
+use Rattle.disk_model.specs.Disk.{Meaning}
+use Rattle.pump_frame.specs.declared.row.SessionRow.{SessionRow}
+use Rattle.pump_core.specs.Passage.{Low, High, Fits, new_high, shape_of_row}
+use Rattle.relay_side.specs.Sides.{SideTells}
+use Rattle.serving.specs.Doors.{DoorsTell}
+use Rattle.serving.specs.Finding.{AtOpening, FindsBoth}
+use Rattle.serving.specs.HighServing.{HighServed}
+use Rattle.serving.specs.LowServing.{LowServed}
+use Rattle.serving.specs.PassageEnds.{EndTells, IsStillOf}
+use Rattle.serving.specs.declared.doors.WorkersEnd.{WorkersEnd}
+
+-- Both workers made their rounds, or ended before, from one opening on. What the low end of the passage did and what
+-- the high end did fits one passage of the row.
+pub record BothServed {D L S : Type 0} (t : DoorsTell D L) (m : Meaning S) (row : SessionRow) (rounds : ℕ) (key : List ℕ) (low_side high_side : SideTells D L)
+    (written now_written : Option (List ℕ)) (faults now_faults : ℕ) (low_disk high_disk now_low_disk now_high_disk : S) (ends : WorkersEnd) : Type 0 where
+  pub o : AtOpening
+  pub found : FindsBoth m row o low_disk high_disk
+  pub l : Low
+  pub h : High
+  pub low : LowServed t m row rounds key low_side written now_written faults now_faults o l low_disk now_low_disk ends.low
+  pub high : HighServed t m row rounds high_side o h high_disk now_high_disk ends.high
+  pub fits : Fits (shape_of_row row) l h
+
+-- The two ends, which come back when the workers have ended, stand for what the workers did, if that fits one passage.
+pub record EndsAsDone {E F Place : Type 0} (e : EndTells E Place) (f : EndTells F Place) (row : SessionRow) (low_end : E) (high_end : F) (now_low_end : E) (now_high_end : F) (AreDone : Type 0) : Type 0 where
+  pub low_still : IsStillOf e low_end now_low_end
+  pub high_still : IsStillOf f high_end now_high_end
+  pub l : Low
+  pub h : High
+  pub low_stands : e.stands now_low_end l new_high
+  pub high_stands : f.stands now_high_end l h
+  pub done : Fits (shape_of_row row) l h → AreDone

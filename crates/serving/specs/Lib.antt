@@ -8,5 +8,6 @@ pub mod LowRuns
 pub mod LowServing
 pub mod PassageEnds
 pub mod Replayed
+pub mod SentStored
 pub mod Sessions
 pub mod WorkerEnds

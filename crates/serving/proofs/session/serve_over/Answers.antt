@@ -12,6 +12,7 @@ use Rattle.serving.specs.Sessions.{SessionComes}
 use Rattle.serving.proofs.Dealt.{comes_next, finds_both}
 use Rattle.serving.proofs.HighServes.{high_done}
 use Rattle.serving.proofs.LowServes.{low_done}
+use Rattle.serving.proofs.SentStored.{sent_is_stored}
 use Rattle.serving.proofs.Opens.{high_calls, rose_so, if_ok, if_err, on_err, unserved_comes}
 use Rattle.serving.proofs.session.serve_over.Goals as goal
 
@@ -83,7 +84,7 @@ returns-in-Ok-ends-clause-ended g c =
       h = high_end;
       low_stands = low_stands;
       high_stands = high_stands;
-      done = λ fits. record { o = o; found = found; l = l; h = high_end; low = low; high = high; fits = fits };
+      done = λ fits. record { o = o; found = found; l = l; h = high_end; low = low; high = high; fits = fits; sent = sent_is_stored m row o c.args.low c.args.high (row_capacity row c.requires.lawful).0 found _ l high_end low.did high.stays high.are high.did fits };
     }
 
 pub returns-in-Err-ends-clause-comes : goal.returns-in-Err-ends-clause-comes

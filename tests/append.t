@@ -92,7 +92,7 @@ Nobody is there: the looks are used up.
   netpump: message 0 and those after it are not acknowledged: the 20 looks are used up, of which each attempt to connect takes one, each byte that comes, and each wait for a byte; see that the relay of session 1 runs. It may have message 0: append with no input tells which message is next. Append the lines from that one on, with 4294967295 looks
   [12]
 
-An attempt that finds nobody takes ten milliseconds, so that many keep no processor busy.
+Ten milliseconds lie between two attempts, so that many keep no processor busy.
 
   $ begin=$(date +%s%3N); netpump append t.toml 1 100 </dev/null 2>/dev/null; took=$(( $(date +%s%3N) - begin ))
   appended 1 0 0

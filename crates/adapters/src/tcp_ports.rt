@@ -13,7 +13,8 @@ use std::alloc::Global;
 use std::io::{self, ErrorKind};
 use std::net::{Ipv4Addr, Net, TcpListener, TcpStream};
 
-/// How many milliseconds a failed call of a port waits, so that who calls again at once keeps no processor busy.
+/// How many milliseconds lie between two calls of a port at least, so that who calls again and again keeps no
+/// processor busy.
 const PAUSE: i32 = 10;
 
 /// The TCP ports of 127.0.0.1 for one side of a relay. They tell how often a call failed, and nothing else.
@@ -24,6 +25,8 @@ pub struct TcpPorts<'a, R> {
     alloc: Global,
     net: &'a R,
     traffic: &'a Traffic,
+    // Whether a port was called before.
+    has_called: bool,
     faults: u64,
 }
 
@@ -34,6 +37,7 @@ impl<'a, R> TcpPorts<'a, R> {
             alloc,
             net,
             traffic,
+            has_called: false,
             faults: 0,
         }
     }
@@ -91,12 +95,13 @@ impl<'a, R: Net<Listener = TcpListener, Stream = TcpStream>> Ports for TcpPorts<
     }
 
     fn connect(&mut self, port: u16) -> Result<TcpLink<'a>, PortsFault> {
+        if self.has_called {
+            pause(PAUSE);
+        }
+        self.has_called = true;
         match self.call(port) {
             Ok(link) => Ok(link),
-            Err(_) => {
-                pause(PAUSE);
-                Err(self.fault())
-            }
+            Err(_) => Err(self.fault()),
         }
     }
 

@@ -99,6 +99,15 @@ Ten milliseconds lie between two attempts, so that many keep no processor busy.
   fault unfinished 0
   $ [ $took -ge 900 ] || echo "100 attempts took $took milliseconds"
 
+So do they where each connection is ended at once, as by a forwarder without a relay behind it.
+
+  $ ended=(); for _ in {1..50}; do ended+=(""); done
+  $ relay "${ended[@]}" w0 >came; begin=$(date +%s%3N); netpump append t.toml 1 $all </dev/null; took=$(( $(date +%s%3N) - begin )); wait
+  appended 1 0 0
+  $ sort came | uniq -c | sed 's/^ *//'
+  51 came: hello
+  $ [ $took -ge 450 ] || echo "50 connections took $took milliseconds"
+
 Looks run out behind the first line.
 
   $ relay w5,a5 >came; sleep 1; printf '61\n62\n' | netpump append t.toml 1 60; wait; cat came

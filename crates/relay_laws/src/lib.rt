@@ -1,0 +1,6 @@
+//! Laws of a relay that serves together with its two parties. It has no code that runs.
+#![tactic(auto)]
+
+mod laws;
+
+pub use laws::receivers_of_a_relay_hold_a_prefix;

@@ -32,7 +32,7 @@ pub struct FileShelf<'a, R> {
 // Reads from the file's start until it ends or the room is full, and says how many bytes came.
 fn fill(file: &File, into: &mut [u8]) -> io::Result<usize> {
     let mut count = 0;
-    // Each read gives a byte at least, but the last one and those that a signal interrupts.
+    // Each try but the last gives a byte at least, or a signal interrupted it.
     for _ in 0..into.len().saturating_add(TRIES as usize) {
         match file.read_at(&mut into[count..], count as u64) {
             Ok(0) => return Ok(count),
@@ -41,11 +41,11 @@ fn fill(file: &File, into: &mut [u8]) -> io::Result<usize> {
             Err(error) => return Err(error),
         }
     }
-    Ok(count)
+    Err(io::Error::from(ErrorKind::Interrupted))
 }
 
-// The size is what the reads found, and is asked for only where the room was too small: a file that grows
-// meanwhile has what its first bytes tell of.
+// The size is what the reads found, and is asked for only where the room was too small. A disk has its register
+// first, so what the register names was there before the rest is read.
 fn read_whole<R: Files<File = File>>(files: &R, name: &str, into: &mut [u8]) -> io::Result<u64> {
     is_there(files, name)?;
     let file = File::open(files, name)?;

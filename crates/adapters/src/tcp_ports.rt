@@ -13,8 +13,8 @@ use std::alloc::Global;
 use std::io::{self, ErrorKind};
 use std::net::{Ipv4Addr, Net, TcpListener, TcpStream};
 
-/// How many milliseconds lie between two calls of a port at least, so that who calls again and again keeps no
-/// processor busy.
+/// How many milliseconds a `connect` waits first, where one was made before, so that who connects again and again
+/// keeps no processor busy. A signal may end the wait.
 const PAUSE: i32 = 10;
 
 /// The TCP ports of 127.0.0.1 for one side of a relay. They tell how often a call failed, and nothing else.
@@ -25,8 +25,8 @@ pub struct TcpPorts<'a, R> {
     alloc: Global,
     net: &'a R,
     traffic: &'a Traffic,
-    // Whether a port was called before.
-    has_called: bool,
+    // Whether `connect` was called before.
+    has_connected: bool,
     faults: u64,
 }
 
@@ -37,7 +37,7 @@ impl<'a, R> TcpPorts<'a, R> {
             alloc,
             net,
             traffic,
-            has_called: false,
+            has_connected: false,
             faults: 0,
         }
     }
@@ -95,10 +95,10 @@ impl<'a, R: Net<Listener = TcpListener, Stream = TcpStream>> Ports for TcpPorts<
     }
 
     fn connect(&mut self, port: u16) -> Result<TcpLink<'a>, PortsFault> {
-        if self.has_called {
+        if self.has_connected {
             pause(PAUSE);
         }
-        self.has_called = true;
+        self.has_connected = true;
         match self.call(port) {
             Ok(link) => Ok(link),
             Err(_) => Err(self.fault()),

@@ -46,6 +46,7 @@ finds_both m row o before after low high dealt fit low_stands high_stands = reco
   high_stands = high_stands;
   count = dealt.count;
   places = dealt.places;
+  short = dealt.short;
   held = held_is o.low_hand (o.count == o.removed + row.capacity) (o.count - 1) fit.last;
   hands = dealt.hands;
 }

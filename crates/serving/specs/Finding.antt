@@ -1,5 +1,6 @@
 -- What a session finds at its opening.
 use Rattle.std.specs.Prelude.{◌≡◌, ℕ, ◌+◌, ◌≤◌, ◌==◌, List, length, Option, is_some}
+use Rattle.std.specs.List.{All}
 use Rattle.disk_model.specs.Disk.{Meaning}
 use Rattle.pump_frame.specs.declared.frame.Item.{Item}
 use Rattle.pump_frame.specs.declared.row.SessionRow.{SessionRow}
@@ -24,6 +25,7 @@ pub record FindsBoth {S : Type 0} (m : Meaning S) (row : SessionRow) (o : AtOpen
   pub high_stands : m.tells → HighStands row o.removed (m.reading high)
   pub count : o.removed + length o.messages ≡ o.count
   pub places : o.count ≤ o.removed + row.capacity
+  pub short : All (λ message. length message ≤ row.message) o.messages
   pub held : is_some o.low_hand ≡ (o.count == o.removed + row.capacity)
   pub hands : InHands row.capacity (numbered o.removed o.messages) o.high_hand o.low_hand
 

@@ -24,7 +24,7 @@ pub record DidHigh {L : Type 0} (row : SessionRow) (o : AtOpening) (stays : List
   pub times : h.times ≡ (stayed row (high_opening o) stays).times
 
 -- The high worker made its rounds, or ended before: from this opening on, at a door of the row's high port, by the
--- readings of the high side's clock, over the high disk. Its end of the passage stands for `h`.
+-- readings of the high side's clock, over the high disk. `h` is what was done at its end of the passage.
 pub record HighServed {D L S : Type 0} (t : DoorsTell D L) (m : Meaning S) (row : SessionRow) (rounds : ℕ) (side : SideTells D L) (o : AtOpening) (h : High) (disk now_disk : S) (end : RoundsEnd) : Type 0 where
   -- the stays, which go on from the opening
   pub stays : List (Stay L)

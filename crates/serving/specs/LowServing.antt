@@ -48,7 +48,8 @@ is_lost Down = true
 is_lost _ = false
 
 -- The low worker made its rounds, or ended before: from this opening on, at a door of the row's low port, by the
--- readings of the low side's clock, with the words of the key, over the low disk. Its end of the passage stands for `l`.
+-- readings of the low side's clock, with the words of the key, over the low disk. `l` is what was done at its end of
+-- the passage.
 pub record LowServed {D L S : Type 0} (t : DoorsTell D L) (m : Meaning S) (row : SessionRow) (rounds : ℕ) (key : List ℕ) (side : SideTells D L)
     (written now_written : Option (List ℕ)) (faults now_faults : ℕ) (o : AtOpening) (l : Low) (disk now_disk : S) (end : RoundsEnd) : Type 0 where
   -- the stays, whose looks are the life of the low process from the opening on, each with the reply that is due

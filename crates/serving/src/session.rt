@@ -96,9 +96,10 @@ where
     requires low_ends { L.stands low_ends new_low new_high }
     requires high_ends { (l : Low) → H.stands high_ends l new_high }
     ensures ended { IfEndsBack result (λ ends low_end high_end. EndsAsDone (end_tells L.stands L.shape L.place) (end_tells H.stands H.shape H.place) row.now low_ends high_ends low_end high_end
-        (BothServed (doors P.Door.port P.Door.did P.Door.gives (links P.Link.gives P.Link.sent P.Link.faults)) D.told row.now rounds key
+        (λ l h. (b : BothServed (doors P.Door.port P.Door.did P.Door.gives (links P.Link.gives P.Link.sent P.Link.faults)) D.told row.now rounds key
         (side P.did P.faults K.reads low_side.old low_side.new) (side P.did P.faults K.reads high_side.old high_side.new) (O.written tape.old) (O.written tape.new) (O.faults tape.old) (O.faults tape.new)
-        low high (low_in result) (high_in result) ends)) }
+        low high (low_in result) (high_in result) ends) × (b.l ≡ l) × (b.h ≡ h))) }
+    ensures some_memory { end_in result ≡ SessionEnd.Memory → ⊥ }
     ensures comes { SessionComes P.did P.faults D.told row.now low_side.old high_side.old low_side.new high_side.new tape.old tape.new low high (low_in result) (high_in result) (end_in result) }
 {
     let opened = match open_pump_waiting(rt, low, high, row, &mut low_ends) {

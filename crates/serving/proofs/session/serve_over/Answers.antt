@@ -40,6 +40,7 @@ returns-in-Err g c =
     let r = c.in-Err.refused in
     record {
       ended = refl;
+      some_memory = λ is. absurd (cc);
       comes = record {
         opens = (rose_so g.D.Disk.told c.args.row.now r.role (is_device r.why) c.args.low c.args.high r.low r.high e.role e.calls_low e.calls_high, e.exact);
         wanting = λ is. absurd (cc);
@@ -84,7 +85,7 @@ returns-in-Ok-ends-clause-ended g c =
       h = high_end;
       low_stands = low_stands;
       high_stands = high_stands;
-      done = λ fits. record { o = o; found = found; l = l; h = high_end; low = low; high = high; fits = fits; sent = sent_is_stored m row o c.args.low c.args.high (row_capacity row c.requires.lawful).0 found _ l high_end low.did high.stays high.are high.did fits };
+      done = λ fits. (record { o = o; found = found; l = l; h = high_end; low = low; high = high; fits = fits; sent = sent_is_stored m row o c.args.low c.args.high (row_capacity row c.requires.lawful).0 found _ l high_end low.did high.stays high.are high.did fits }, refl, refl);
     }
 
 pub returns-in-Err-ends-clause-comes : goal.returns-in-Err-ends-clause-comes

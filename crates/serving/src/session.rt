@@ -187,6 +187,7 @@ where
     ensures both { IfEnded result.end (λ ends. BothServed (doors P.Door.port P.Door.did P.Door.gives (links P.Link.gives P.Link.sent P.Link.faults)) D.told row.now rounds key
         (side P.did P.faults K.reads low_side.old low_side.new) (side P.did P.faults K.reads high_side.old high_side.new) (O.written tape.old) (O.written tape.new) (O.faults tape.old) (O.faults tape.new)
         low high result.low result.high ends) }
+    ensures some_memory { result.end ≡ SessionEnd.Memory → ⊥ }
     ensures comes { SessionComes P.did P.faults D.told row.now low_side.old high_side.old low_side.new high_side.new tape.old tape.new low high result.low result.high result.end }
 {
     let low_end = WatchedLow {

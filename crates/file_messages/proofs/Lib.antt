@@ -1,0 +1,4 @@
+pub mod FirstBytes
+pub mod Names
+pub mod Starts
+pub mod Taking

@@ -1,0 +1,5 @@
+pub mod FileNames
+pub mod Files
+pub mod Messages
+pub mod Cuts
+pub mod Assemblies

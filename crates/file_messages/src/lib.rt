@@ -4,6 +4,7 @@
 
 mod assembly;
 mod file_name;
+pub mod laws;
 mod spelling;
 
 pub use assembly::{Assembly, Cause, Progress, Step};

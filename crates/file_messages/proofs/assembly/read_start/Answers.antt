@@ -1,4 +1,4 @@
-use Rattle.std.proofs.Common.{◌≡◌, ℕ, List, ◌<◌, ◌≤◌, ◌^◌, drop, arith, sym, ◌∙◌, ap, subst}
+use Rattle.std.proofs.Common.{◌≡◌, ℕ, List, ◌<◌, ◌≤◌, ◌^◌, drop, arith, refl, sym, ◌∙◌, ap, subst}
 use Rattle.byteorder.specs.Endian.{big_number}
 use Rattle.file_messages.specs.FileNames.{IsFileName}
 use Rattle.file_messages.specs.Messages.{Start}
@@ -29,5 +29,5 @@ returns-clause-some c =
     let rest = c.args.rest.now in
     let size = c.read_u64-size.ensures ∙ ap (big_number 8) (behind rest 1) in
     let name = c.in_ok-name.ensures.value ∙ behind rest 9 in
-    is_start rest c.if-rest-ne-VERSION.false (subst (λ k. k < 2 ^ 48) size c.if-size-ge-LIMIT.false) (subst IsFileName (behind rest 9) (c.in_ok-name.ensures.some.0 _))
+    is_start rest c.if-rest-ne-VERSION.false (subst (λ k. k < 2 ^ 48) size c.if-size-ge-LIMIT.false) (subst IsFileName (behind rest 9) (c.in_ok-name.ensures.some.0 refl))
     ∙ (λ i. Start (sym name i) (sym size i))

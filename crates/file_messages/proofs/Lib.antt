@@ -1,5 +1,11 @@
+pub mod Broken
 pub mod FirstBytes
+pub mod Firsts
+pub mod Lawful
+pub mod Lists
 pub mod Names
+pub mod Pieces
 pub mod Runs
 pub mod Starts
 pub mod Taking
+pub mod Wholes

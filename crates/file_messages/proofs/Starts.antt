@@ -4,7 +4,7 @@ use Rattle.std.proofs.lemmas.Bool.Decides.{nat_tests}
 use Rattle.std.proofs.lemmas.List.{drop_all, take_rest}
 use Rattle.byteorder.specs.Endian.{big_number}
 use Rattle.file_messages.specs.FileNames.{is_file_name, IsFileName}
-use Rattle.file_messages.specs.Messages.{Message, Start, Other, start_of}
+use Rattle.file_messages.specs.Messages.{Message, Start, End, Other, start_of}
 use Rattle.file_messages.proofs.Names.{no_name}
 
 not_true : (b : Bool) → (b ≡ true → ⊥) → b ≡ false
@@ -20,8 +20,21 @@ is_not_one n h = grind (arith, nat_tests)
 is_small : (n k : ℕ) → n < k → nat_lt n k ≡ true
 is_small n k h = grind (arith, nat_tests)
 
+small_is : (n k : ℕ) → nat_lt n k ≡ true → n < k
+small_is n k h = grind (arith, nat_tests)
+
 is_large : (n k : ℕ) → k ≤ n → nat_lt n k ≡ false
 is_large n k h = grind (arith, nat_tests)
+
+-- a start has a lawful name and size
+abbrev pub IsLawfulMessage : Message → Type 0
+IsLawfulMessage (Start name size) = IsFileName name × (size < 2 ^ 48)
+IsLawfulMessage message = Unit {0}
+
+-- a message is no end
+abbrev pub IsNoEnd : Message → Type 0
+IsNoEnd (End digest) = ⊥
+IsNoEnd message = Unit {0}
 
 -- what is cut off behind so many bytes
 pub behind : (rest : List ℕ) (n : ℕ) → take (length rest - n) (drop n rest) ≡ drop n rest
@@ -61,6 +74,29 @@ module _ (rest : List ℕ) where
       → start_of rest ≡ Start (drop 9 rest) (big_number 8 (drop 1 rest))
   unfolding by_tests
   is_start e f g = started true true true (is_one _ e) (is_small (big_number 8 (drop 1 rest)) (2 ^ 48) f) g
+
+  -- the name and the size of a start are lawful
+  lawful_by : (version size name : Bool) → (slice_index rest 0 == 1) ≡ version → nat_lt (big_number 8 (drop 1 rest)) (2 ^ 48) ≡ size → is_file_name (drop 9 rest) ≡ name
+      → IsLawfulMessage (by_tests version size name)
+  unfolding by_tests
+  lawful_by true true true e f g = (g, small_is (big_number 8 (drop 1 rest)) (2 ^ 48) f)
+  lawful_by true true false e f g = tt
+  lawful_by true false name e f g = tt
+  lawful_by false size name e f g = tt
+
+  pub lawful_start : IsLawfulMessage (start_of rest)
+  lawful_start = subst IsLawfulMessage (sym (started _ _ _ refl refl refl)) (lawful_by _ _ _ refl refl refl)
+
+  -- it gives no file, and is no end
+  no_end_by : (version size name : Bool) → IsNoEnd (by_tests version size name)
+  unfolding by_tests
+  no_end_by true true true = tt
+  no_end_by true true false = tt
+  no_end_by true false name = tt
+  no_end_by false size name = tt
+
+  pub no_end_start : IsNoEnd (start_of rest)
+  no_end_start = subst IsNoEnd (sym (started _ _ _ refl refl refl)) (no_end_by _ _ _)
 
 -- too few bytes have no name
 pub too_few : (rest : List ℕ) → length rest < 9 → start_of rest ≡ Other

@@ -1,6 +1,7 @@
 pub mod Broken
 pub mod FirstBytes
 pub mod Firsts
+pub mod Fitting
 pub mod Lawful
 pub mod Lists
 pub mod Names

@@ -1,7 +1,7 @@
 -- Messages one behind the other, and the files that they give.
 use Rattle.std.proofs.Common.{◌≡◌, ℕ, List, [], ◌∷◌, ◌++◌, refl, sym, ◌∙◌, ap, append_assoc}
 use Rattle.file_messages.specs.Messages.{message_of}
-use Rattle.file_messages.specs.Files.{File, State, Between, after, given, state_after, files_from, files}
+use Rattle.file_messages.specs.Files.{File, State, after, given, state_after, files_from}
 
 pub files_on : (state : State) (messages later : List (List ℕ)) → files_from state (messages ++ later) ≡ files_from state messages ++ files_from (state_after state messages) later
 files_on state [] later = refl

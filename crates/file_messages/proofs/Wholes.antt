@@ -1,5 +1,5 @@
 -- The messages of files give these files again.
-use Rattle.std.proofs.Common.{◌≡◌, ℕ, ◌+◌, ◌-◌, ◌^◌, ◌<◌, ◌≤◌, Bool, true, false, nat_le, ◌==◌, ◌&&◌, if◌then◌else◌, List, [], ◌∷◌, ◌++◌, map, length, bytes_eq, refl, sym, ◌∙◌, ap, subst, arith, append_assoc, append-nil, length-append}
+use Rattle.std.proofs.Common.{◌≡◌, ℕ, ◌+◌, ◌-◌, ◌^◌, ◌<◌, ◌≤◌, true, nat_le, ◌&&◌, if◌then◌else◌, List, [], ◌∷◌, ◌++◌, map, length, refl, sym, ◌∙◌, ap, subst, arith, append_assoc, append-nil, length-append}
 use Rattle.std.specs.List.{AllByRecursion, concat}
 use Rattle.std.proofs.lemmas.Bool.{eq-eqb}
 use Rattle.std.proofs.lemmas.Bool.Decides.{nat_tests}
@@ -8,7 +8,7 @@ use Rattle.byteorder.specs.Endian.{big_bytes}
 use Rattle.byteorder.specs.Numbers.{big_number-reads_back}
 use Rattle.sha2.specs.Sha256.{sha256}
 use Rattle.file_messages.specs.FileNames.{IsFileName}
-use Rattle.file_messages.specs.Messages.{Message, Start, Piece, End, message_of, start_message, piece_message}
+use Rattle.file_messages.specs.Messages.{Message, Start, message_of, start_message, piece_message}
 use Rattle.file_messages.specs.Files.{File, IsLawfulFile, State, Between, Inside, is_whole, after, given, state_after, files_from, files}
 use Rattle.file_messages.specs.Cuts.{pieces, begun, end_of, cut, cut_all}
 use Rattle.file_messages.proofs.Starts.{is_start}
@@ -66,7 +66,7 @@ state_behind message file later two lawful =
     state_on Between (cut message file) later
     ∙ ap (λ (s : State). state_after s later)
     (state_on Between (begun message file) (end_of file ∷ []) ∙ ap (λ (s : State). after s (message_of (end_of file))) (before_end message file two lawful)
-        ∙ ap (after (Inside file.name (length file.bytes) file.bytes)) (an_end 3 (sha256 file.bytes) refl))
+    ∙ ap (after (Inside file.name (length file.bytes) file.bytes)) (an_end 3 (sha256 file.bytes) refl))
 
 pub files_behind : (message : ℕ) (file : File) (later : List (List ℕ)) → 2 ≤ message → IsLawfulFile file → files (cut message file ++ later) ≡ file ∷ files later
 files_behind message file later two lawful =

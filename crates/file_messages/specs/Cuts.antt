@@ -1,5 +1,5 @@
 -- Files as lists of messages.
-use Rattle.std.specs.Prelude.{◌≡◌, ℕ, zero, suc, ◌-◌, ◌<◌, List, [], ◌∷◌, ◌++◌, length, take, drop, map, flat_map, replicate}
+use Rattle.std.specs.Prelude.{◌≡◌, ℕ, zero, suc, ◌-◌, List, [], ◌∷◌, ◌++◌, length, take, drop, map, flat_map, replicate}
 use Rattle.sha2.specs.Sha256.{sha256}
 use Rattle.file_messages.specs.Messages.{start_message, piece_message, end_message, abandon_message}
 use Rattle.file_messages.specs.Files.{File}

@@ -1,10 +1,25 @@
 //! The laws of files as messages. Each is a function without parameters and without a result whose
 //! contract is the law; calling it does nothing.
 
-ghost use Rattle.std.specs.Prelude.{◌≡◌, ◌≤◌, ◌++◌, [], ℕ, List};
+ghost use Rattle.std.specs.Prelude.{◌≡◌, ◌↔◌, ◌≤◌, ◌∷◌, ◌++◌, [], ℕ, List, length};
 ghost use Rattle.std.specs.List.{AllByRecursion};
-ghost use Rattle.file_messages.specs.Files.{File, IsLawfulFile, Between, files, files_from, state_after};
-ghost use Rattle.file_messages.specs.Cuts.{cut_all, end_of, IsBrokenCut, BeginsNext, HasMessage};
+ghost use Rattle.file_messages.specs.Messages.{Message};
+ghost use Rattle.file_messages.specs.Files.{File, IsLawfulFile, State, Between, given, files, files_from, state_after};
+ghost use Rattle.file_messages.specs.Cuts.{cut, cut_all, end_of, IsBrokenCut, BeginsNext, HasMessage};
+ghost use Rattle.file_messages.specs.Assemblies.{answer};
+ghost use Rattle.file_messages.specs.declared.assembly.Step.TheVariants.{Whole};
+
+/// No message of a file is longer than the message size, where that leaves room for every name.
+pub fn messages_fit()
+    ensures { (message : ℕ) (file : File) → 138 ≤ message → IsLawfulFile file
+        → AllByRecursion (λ m. length m ≤ message) (cut message file) }
+{}
+
+/// An assembly answers that a file is whole exactly where it is given.
+pub fn whole_files_are_given()
+    ensures { (state : State) (message : Message)
+        → (answer state message ≡ Whole) ↔ ((file : File) × (given state message ≡ file ∷ [])) }
+{}
 
 /// What messages give stays given: those behind them only add files.
 pub fn files_stay()

@@ -1,4 +1,4 @@
-use Rattle.std.proofs.Common.{◌≡◌, ℕ, List, ◌<◌, ◌≤◌, ◌^◌, drop, arith, refl, sym, ◌∙◌, ap, subst}
+use Rattle.std.proofs.Common.{◌<◌, ◌≤◌, ◌^◌, refl, sym, ◌∙◌, ap, subst}
 use Rattle.byteorder.specs.Endian.{big_number}
 use Rattle.file_messages.specs.FileNames.{IsFileName}
 use Rattle.file_messages.specs.Messages.{Start}
@@ -15,8 +15,8 @@ returns-then-rest-ne-VERSION-clause-none c = λ e.
     elim c.then-rest-ne-VERSION.branch [
       | then-rest-ne-VERSION-via-then-rest-ne-VERSION w ↦ no_version rest w.if-rest-ne-VERSION.true
       | then-rest-ne-VERSION-via-else-rest-ne-VERSION+then-size-ge-LIMIT w ↦
-        let size = c.read_u64-size.ensures ∙ ap (big_number 8) (behind rest 1) in
-        too_large rest (subst (λ k. 2 ^ 48 ≤ k) size w.if-size-ge-LIMIT.true)
+          let size = c.read_u64-size.ensures ∙ ap (big_number 8) (behind rest 1) in
+          too_large rest (subst (λ k. 2 ^ 48 ≤ k) size w.if-size-ge-LIMIT.true)
     ]
 
 pub returns-in_err-name-clause-none : goal.returns-in_err-name-clause-none

@@ -1,4 +1,4 @@
-use Rattle.std.proofs.Common.{◌≡◌, ◌≤◌, ◌∙◌, sym, length, drop, replicate}
+use Rattle.std.proofs.Common.{◌≤◌, ◌∙◌, sym, length, drop, replicate}
 use Rattle.pump_frame.specs.Padded.{padded_new, padded_whole, padded_front}
 use Rattle.file_messages.specs.FileNames.{IsFileName}
 use Rattle.file_messages.proofs.Names.{short_name}

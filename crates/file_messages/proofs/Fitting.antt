@@ -1,7 +1,6 @@
 -- How long the messages of a file are.
-use Rattle.std.proofs.Common.{◌≡◌, ℕ, zero, suc, ◌+◌, ◌-◌, ◌≤◌, List, [], ◌∷◌, ◌++◌, map, length, take, drop, arith, subst, length-append, length-take}
+use Rattle.std.proofs.Common.{ℕ, zero, suc, ◌+◌, ◌-◌, ◌≤◌, List, [], ◌∷◌, map, length, drop, arith, length-take}
 use Rattle.std.specs.List.{AllByRecursion}
-use Rattle.byteorder.specs.Endian.{big_bytes}
 use Rattle.sha2.proofs.Facts256.{length-sha256}
 use Rattle.file_messages.specs.FileNames.{IsFileName}
 use Rattle.file_messages.specs.Messages.{start_message, piece_message}

@@ -42,6 +42,7 @@ pub enum Step {
 /// How far the file is that has begun.
 #[derive(Clone, Copy)]
 pub struct Progress {
+    /// Its name.
     pub name: FileName,
     /// How many bytes it is to have.
     pub size: u64,
@@ -185,7 +186,8 @@ impl Assembly {
         Step::Whole
     }
 
-    /// Takes a message. Where it answers `Whole`, the file that had begun is as it was sent.
+    /// Takes a message. It answers `Whole` only where the file that had begun has as many bytes as it was
+    /// to have, and the message tells their SHA-256.
     pub fn step(&mut self, message: &[u8]) -> Step
         ensures { TakesMessage self.old self.new (message_of message.now) result }
     {

@@ -26,7 +26,7 @@ pub(crate) const VERSION: u8 = 1;
 /// Every file has fewer bytes.
 pub(crate) const LIMIT: u64 = 1 << 48;
 
-/// What stands before the name in the message with which a file begins.
+/// How many bytes stand before the name in the message with which a file begins.
 pub(crate) const HEAD: usize = 10;
 
 // What stands before the name in the message with which a file begins.

@@ -11,9 +11,10 @@ ghost use Rattle.relay_laws.specs.Heard.{HearsOnly};
 ghost use Rattle.serving.specs.SentStored.{SentIsStored};
 
 /// High's receiver has a prefix of what a relay accepted, each message once and in order, if it had one
-/// before, and if each message that it hears was sent. The first holds from one call of the relay to the
-/// next, and the second is the network's. What was accepted is the `earlier` messages, which were removed
-/// before the relay was opened, and those that the opening found and that Low has stored since.
+/// before, and if each message that it hears was sent. The first follows from one call of the relay to the
+/// next where the second opening finds what the first call left, which is no clause; the second is the
+/// network's. What was accepted is the `earlier` messages, which were removed before the relay was opened,
+/// and those that the opening found and that Low has stored since.
 /// `BothServed` says of a relay that what it sent is stored so, and `Receives` of a receiver that these are
 /// its turns.
 pub fn receivers_of_a_relay_hold_a_prefix()

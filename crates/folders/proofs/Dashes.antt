@@ -1,0 +1,64 @@
+-- The first dash of a name stands behind its first field.
+use Rattle.std.proofs.Common.{◌≡◌, ℕ, ◌+◌, ◌-◌, ◌^◌, ◌<◌, ◌==◌, Bool, true, false, List, Some, None, [], ◌∷◌, ◌++◌, length, take, drop, codes, decimal, zero, suc, refl, sym, ap, ◌∙◌, arith}
+use Rattle.std.proofs.lemmas.Bool.{false_from_ne_true, both_ways, eqb-true, ne_eqb, lt-ltb}
+use Rattle.std.proofs.lemmas.List.{length-append, take_at, drop_at, append_assoc, take_all}
+use Rattle.std.proofs.lemmas.List.Elements.{All-head, All-tail, All-from_get_or, All-weaker}
+use Rattle.std.proofs.lemmas.Str.Parse.{IsNumeralModel, numerals_by_value, tells_digits, not_in_digits}
+use Rattle.std.proofs.lemmas.Fmt.{digits_decimal}
+use Rattle.std.specs.Str.Parse.{AllDigits, digits_value}
+use Rattle.std.specs.Int.{IsInRange}
+use Rattle.std.specs.List.{position, position_or_len}
+use Rattle.hex.specs.Hex.{IsBytes, encode_lower, is_hex_digit}
+use Rattle.hex.proofs.HexLemmas.{decode_of-ok, decode_of-encode_lower}
+use Rattle.folders.specs.Finding.{is_dash, IsFree}
+
+dash_at : (front back : List ℕ) → IsFree front → position_or_len is_dash (front ++ 45 ∷ back) ≡ length front
+dash_at [] back free = refl
+dash_at (b ∷ front) back free =
+    let first : is_dash b ≡ false = All-head (λ x. is_dash x ≡ false) b front free in
+    rw (first, dash_at front back (All-tail (λ x. is_dash x ≡ false) b front free)) (omega arith)
+
+pub first_dash : (front back : List ℕ) → IsFree front → position is_dash (front ++ 45 ∷ back) ≡ Some (length front)
+first_dash front back free =
+    rw (dash_at front back free, lt-ltb (length front) (length (front ++ 45 ∷ back)) (omega (arith, length-append front (45 ∷ back)))) refl
+
+-- what stands before it, and what behind it
+pub parts_at : (text front back : List ℕ) (at : ℕ) → Some at ≡ position is_dash text → IsFree front → text ≡ front ++ 45 ∷ back
+    → (take at text ≡ front) × (take (length text - (at + 1)) (drop (at + 1) text) ≡ back)
+parts_at text front back at is free shape =
+    let found : Some at ≡ Some (length front) = is ∙ ap (position is_dash) shape ∙ first_dash front back free in
+    let place : at ≡ length front = cc in
+    let behind : drop (at + 1) text ≡ back =
+    rw (shape, ← append_assoc front (45 ∷ []) back) (drop_at (front ++ 45 ∷ []) back (at + 1) (rw (length-append front (45 ∷ [])) (omega (arith, place)))) in
+    let rest : length text - (at + 1) ≡ length back = omega (arith, place, ap length shape, length-append front (45 ∷ back)) in
+    (rw shape (take_at front (45 ∷ back) at (sym place)), rw (behind, rest) (take_all (length back) back (omega arith)))
+
+pub some_dash : (text front back : List ℕ) → None ≡ position is_dash text → IsFree front → text ≡ front ++ 45 ∷ back → ⊥
+some_dash text front back none free shape =
+    let found : None ≡ Some (length front) = none ∙ ap (position is_dash) shape ∙ first_dash front back free in cc
+
+pub none_some : {A : Type 0} (x : A) → None ≡ Some x → ⊥
+none_some x e = cc
+
+pub untrue : false ≡ true → ⊥
+untrue e = cc
+
+not_dash : (p : ℕ → Bool) → p 45 ≡ false → (x : ℕ) → p x ≡ true → is_dash x ≡ false
+not_dash p at_dash x passes = false_from_ne_true (is_dash x) (λ e. both_ways (p x) (ap p (eqb-true x 45 e) ∙ at_dash) passes)
+
+pub free_digits : (digest : List ℕ) → IsBytes digest → IsFree (encode_lower digest)
+free_digits digest bytes =
+    All-weaker (λ x. is_hex_digit x ≡ true) (λ b. is_dash b ≡ false) (not_dash is_hex_digit refl) (encode_lower digest)
+    (decode_of-ok (encode_lower digest) digest (decode_of-encode_lower digest bytes)).1
+
+pub free_decimal : (n : ℕ) → n < 2 ^ 64 → IsFree (decimal n)
+free_decimal n fits =
+    let own : IsNumeralModel (AllDigits 10) (digits_value 10) = numerals_by_value _ tells_digits in
+    let out : IsInRange 48 57 45 → ⊥ = λ h. absurd (omega (arith, h.0)) in
+    All-from_get_or (λ x. (x == 45) ≡ false) (decimal n) 0 (λ i low. ne_eqb _ 45 (not_in_digits own (decimal n) 45 (digits_decimal own n fits) out i low))
+
+pub free_front : IsFree (codes ".np")
+free_front zero d low = refl
+free_front (suc zero) d low = refl
+free_front (suc (suc zero)) d low = refl
+free_front (suc (suc (suc k))) d low = absurd (omega (arith, low))

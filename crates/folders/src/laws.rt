@@ -1,0 +1,25 @@
+//! The laws of marks. Each is a function without parameters and without a result whose contract is the
+//! law; calling it does nothing.
+
+ghost use Rattle.std.specs.Prelude.{◌≡◌, ◌^◌, ◌<◌, ◌≤◌, ℕ, length};
+ghost use Rattle.file_messages.specs.FileNames.{IsFileName};
+ghost use Rattle.folders.specs.Marks.{IsMark, hidden_name};
+ghost use Rattle.folders.specs.declared.mark.Mark.{Mark};
+
+/// No two marks have one name, also not in two sessions.
+pub fn marks_are_one()
+    ensures { (session other : ℕ) (mark another : Mark) → session < 2 ^ 32 → other < 2 ^ 32 → IsMark mark
+        → IsMark another → hidden_name session mark ≡ hidden_name other another
+        → (session ≡ other) × (mark ≡ another) }
+{}
+
+/// The name of a mark has at most 247 bytes.
+pub fn hidden_names_fit()
+    ensures { (session : ℕ) (mark : Mark) → session < 2 ^ 32 → IsMark mark
+        → length (hidden_name session mark) ≤ 247 }
+{}
+
+/// No file that waits to be sent has such a name: its name begins with a letter or a digit.
+pub fn hidden_names_are_no_file_names()
+    ensures { (session : ℕ) (mark : Mark) → IsFileName (hidden_name session mark) → ⊥ }
+{}

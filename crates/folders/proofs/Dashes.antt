@@ -1,14 +1,16 @@
--- The first dash of a name stands behind its first field.
-use Rattle.std.proofs.Common.{◌≡◌, ℕ, ◌+◌, ◌-◌, ◌^◌, ◌<◌, ◌==◌, Bool, true, false, List, Some, None, [], ◌∷◌, ◌++◌, length, take, drop, codes, decimal, zero, suc, refl, sym, ap, ◌∙◌, arith}
-use Rattle.std.proofs.lemmas.Bool.{false_from_ne_true, both_ways, eqb-true, ne_eqb, lt-ltb}
+-- The first dash of a name stands behind its first field; the fields are text.
+use Rattle.std.proofs.Common.{◌≡◌, ℕ, ◌+◌, ◌-◌, ◌^◌, ◌<◌, ◌==◌, Bool, true, false, ltb, List, Some, None, [], ◌∷◌, ◌++◌, length, take, drop, codes, decimal, zero, suc, refl, sym, ap, ◌∙◌, arith}
+use Rattle.std.proofs.lemmas.Bool.{and_parts, false_from_ne_true, both_ways, eqb-true, ltb-true, ne_eqb, lt-ltb}
 use Rattle.std.proofs.lemmas.List.{length-append, take_at, drop_at, append_assoc, take_all}
 use Rattle.std.proofs.lemmas.List.Elements.{All-head, All-tail, All-from_get_or, All-weaker}
 use Rattle.std.proofs.lemmas.Str.Parse.{IsNumeralModel, numerals_by_value, tells_digits, not_in_digits}
 use Rattle.std.proofs.lemmas.Fmt.{digits_decimal}
 use Rattle.std.specs.Str.Parse.{AllDigits, digits_value}
 use Rattle.std.specs.Int.{IsInRange}
-use Rattle.std.specs.List.{position, position_or_len}
-use Rattle.hex.specs.Hex.{IsBytes, encode_lower, is_hex_digit}
+use Rattle.std.specs.Str.{IsAscii}
+use Rattle.std.proofs.lemmas.Str.Ascii.{IsAscii-nil, IsAscii-cons}
+use Rattle.std.specs.List.{list_all, position, position_or_len}
+use Rattle.hex.specs.Hex.{IsBytes, encode_lower, is_hex_digit, lower_digits}
 use Rattle.hex.proofs.HexLemmas.{decode_of-ok, decode_of-encode_lower}
 use Rattle.folders.specs.Finding.{is_dash, IsFree}
 
@@ -43,12 +45,13 @@ none_some x e = cc
 pub untrue : false ≡ true → ⊥
 untrue e = cc
 
-not_dash : (p : ℕ → Bool) → p 45 ≡ false → (x : ℕ) → p x ≡ true → is_dash x ≡ false
-not_dash p at_dash x passes = false_from_ne_true (is_dash x) (λ e. both_ways (p x) (ap p (eqb-true x 45 e) ∙ at_dash) passes)
+-- what passes a test that the byte fails is another one
+pub other_than : (mark : ℕ) (p : ℕ → Bool) → p mark ≡ false → (x : ℕ) → p x ≡ true → (x == mark) ≡ false
+other_than mark p fails x passes = false_from_ne_true (x == mark) (λ e. both_ways (p x) (ap p (eqb-true x mark e) ∙ fails) passes)
 
 pub free_digits : (digest : List ℕ) → IsBytes digest → IsFree (encode_lower digest)
 free_digits digest bytes =
-    All-weaker (λ x. is_hex_digit x ≡ true) (λ b. is_dash b ≡ false) (not_dash is_hex_digit refl) (encode_lower digest)
+    All-weaker (λ x. is_hex_digit x ≡ true) (λ b. is_dash b ≡ false) (other_than 45 is_hex_digit refl) (encode_lower digest)
     (decode_of-ok (encode_lower digest) digest (decode_of-encode_lower digest bytes)).1
 
 pub free_decimal : (n : ℕ) → n < 2 ^ 64 → IsFree (decimal n)
@@ -62,3 +65,13 @@ free_front zero d low = refl
 free_front (suc zero) d low = refl
 free_front (suc (suc zero)) d low = refl
 free_front (suc (suc (suc k))) d low = absurd (omega (arith, low))
+
+ascii_by : (bytes : List ℕ) → list_all (λ b. ltb b 128) bytes ≡ true → IsAscii bytes
+ascii_by [] h = IsAscii-nil
+ascii_by (b ∷ bytes) h =
+    let parts = and_parts (ltb b 128) (list_all (λ x. ltb x 128) bytes) h in
+    IsAscii-cons b bytes (ltb-true b 128 parts.0) (ascii_by bytes parts.1)
+
+-- the digits are text
+pub ascii_digits : IsAscii lower_digits
+ascii_digits = ascii_by lower_digits refl

@@ -1,3 +1,4 @@
 pub mod Dashes
 pub mod Lengths
 pub mod One
+pub mod Tildes

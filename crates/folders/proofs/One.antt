@@ -1,43 +1,46 @@
 -- The name of a mark is that of no other one.
-use Rattle.std.proofs.Common.{◌≡◌, ℕ, ◌^◌, ◌<◌, false, nat_le, ◌&&◌, length, List, [], ◌∷◌, ◌++◌, slice_index, decimal, refl, sym, ap, ◌∙◌, arith}
+use Rattle.std.proofs.Common.{◌≡◌, ℕ, ◌^◌, ◌<◌, ◌==◌, false, nat_le, ◌&&◌, length, List, [], ◌∷◌, ◌++◌, slice_index, decimal, refl, sym, ap, ◌∙◌, arith}
 use Rattle.std.proofs.lemmas.List.Elements.{All-head, All-tail}
-use Rattle.std.proofs.lemmas.Bool.{and_parts}
-use Rattle.std.specs.List.{list_all}
+use Rattle.std.proofs.lemmas.Bool.{and_parts, both_ways, eq-eqb}
+use Rattle.std.specs.List.{All, list_all}
 use Rattle.file_messages.specs.FileNames.{IsFileName, is_file_name, is_name_byte, begins_plainly, ends_plainly}
 use Rattle.std.proofs.lemmas.Fmt.{decimal_injective}
 use Rattle.hex.specs.Hex.{IsBytes, encode_lower, decode_of}
 use Rattle.hex.proofs.HexLemmas.{decode_of-encode_lower, decode_of-same}
-use Rattle.folders.specs.Finding.{is_dash, IsFree}
 use Rattle.folders.specs.Marks.{HasNumbers, HasDigest, IsMark, dashed, stage_fields, hidden_name}
 use Rattle.folders.specs.declared.mark.Mark.{Mark}
 use Rattle.folders.specs.declared.mark.Stage.{Stage}
 use Rattle.folders.specs.declared.mark.Stage.TheVariants.{Fresh, Sending, Stopped}
 use Rattle.folders.proofs.Dashes.{free_decimal, free_digits, untrue}
 
-dash_in : (b : ℕ) (front : List ℕ) → IsFree (b ∷ front) → 45 ≡ b → ⊥
-dash_in b front free e =
-    let first : is_dash b ≡ false = All-head (λ x. is_dash x ≡ false) b front free in
-    let dash : is_dash 45 ≡ false = ap is_dash e ∙ first in cc
+-- no such byte stands in a field
+abbrev pub Lacks : ℕ → List ℕ → Type 0
+Lacks mark field = All (λ x. (x == mark) ≡ false) field
 
-pub fields_one : (a b x y : List ℕ) → IsFree a → IsFree b → a ++ 45 ∷ x ≡ b ++ 45 ∷ y → (a ≡ b) × (x ≡ y)
-fields_one [] [] x y fa fb e = (refl, cc)
-fields_one [] (c ∷ b) x y fa fb e = let same : 45 ≡ c = cc in absurd (dash_in c b fb same)
-fields_one (c ∷ a) [] x y fa fb e = let same : 45 ≡ c = cc in absurd (dash_in c a fa same)
-fields_one (c ∷ a) (d ∷ b) x y fa fb e =
-    let tails : a ++ 45 ∷ x ≡ b ++ 45 ∷ y = cc in
-    let rest = fields_one a b x y (All-tail (λ z. is_dash z ≡ false) c a fa) (All-tail (λ z. is_dash z ≡ false) d b fb) tails in
+in_front : (mark b : ℕ) (front : List ℕ) → Lacks mark (b ∷ front) → mark ≡ b → ⊥
+in_front mark b front free e =
+    both_ways (b == mark) (All-head (λ x. (x == mark) ≡ false) b front free) (eq-eqb b mark (sym e))
+
+-- what stands before the first such byte is one field
+pub fields_one : (mark : ℕ) (a b x y : List ℕ) → Lacks mark a → Lacks mark b → a ++ mark ∷ x ≡ b ++ mark ∷ y → (a ≡ b) × (x ≡ y)
+fields_one mark [] [] x y fa fb e = (refl, cc)
+fields_one mark [] (c ∷ b) x y fa fb e = let same : mark ≡ c = cc in absurd (in_front mark c b fb same)
+fields_one mark (c ∷ a) [] x y fa fb e = let same : mark ≡ c = cc in absurd (in_front mark c a fa same)
+fields_one mark (c ∷ a) (d ∷ b) x y fa fb e =
+    let tails : a ++ mark ∷ x ≡ b ++ mark ∷ y = cc in
+    let rest = fields_one mark a b x y (All-tail (λ z. (z == mark) ≡ false) c a fa) (All-tail (λ z. (z == mark) ≡ false) d b fb) tails in
     let first : c ≡ d = cc in
     let front = rest.0 in
     (cc, rest.1)
 
 numbers_one : (m n : ℕ) (x y : List ℕ) → m < 2 ^ 64 → n < 2 ^ 64 → decimal m ++ 45 ∷ x ≡ decimal n ++ 45 ∷ y → (m ≡ n) × (x ≡ y)
 numbers_one m n x y hm hn e =
-    let parts = fields_one (decimal m) (decimal n) x y (free_decimal m hm) (free_decimal n hn) e in
+    let parts = fields_one 45 (decimal m) (decimal n) x y (free_decimal m hm) (free_decimal n hn) e in
     (decimal_injective m n hm hn parts.0, parts.1)
 
 digests_one : (d e x y : List ℕ) → IsBytes d → IsBytes e → encode_lower d ++ 45 ∷ x ≡ encode_lower e ++ 45 ∷ y → (d ≡ e) × (x ≡ y)
 digests_one d e x y hd he same =
-    let parts = fields_one (encode_lower d) (encode_lower e) x y (free_digits d hd) (free_digits e he) same in
+    let parts = fields_one 45 (encode_lower d) (encode_lower e) x y (free_digits d hd) (free_digits e he) same in
     (decode_of-same (encode_lower e) d e (ap decode_of (sym parts.0) ∙ decode_of-encode_lower d hd) (decode_of-encode_lower e he), parts.1)
 
 apart : (k l : ℕ) (x y : List ℕ) → (k ≡ l → ⊥) → k ∷ x ≡ l ∷ y → ⊥

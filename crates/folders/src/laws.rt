@@ -1,9 +1,10 @@
-//! The laws of marks. Each is a function without parameters and without a result whose contract is the
+//! The laws of the names of files in their folders. Each is a function without parameters and without a result whose contract is the
 //! law; calling it does nothing.
 
-ghost use Rattle.std.specs.Prelude.{◌≡◌, ◌^◌, ◌<◌, ◌≤◌, ℕ, length};
+ghost use Rattle.std.specs.Prelude.{◌≡◌, ◌^◌, ◌<◌, ◌≤◌, ℕ, List, length};
 ghost use Rattle.file_messages.specs.FileNames.{IsFileName};
 ghost use Rattle.folders.specs.Marks.{IsMark, hidden_name};
+ghost use Rattle.folders.specs.ShownNames.{IsNumbered, numbered};
 ghost use Rattle.folders.specs.declared.mark.Mark.{Mark};
 
 /// No two marks have one name, also not in two sessions.
@@ -22,4 +23,16 @@ pub fn hidden_names_fit()
 /// No file that waits to be sent has such a name: its name begins with a letter or a digit.
 pub fn hidden_names_are_no_file_names()
     ensures { (session : ℕ) (mark : Mark) → IsFileName (hidden_name session mark) → ⊥ }
+{}
+
+/// Two files whose last messages have different numbers have different names with numbers.
+pub fn numbered_names_are_one()
+    ensures { (name another : List ℕ) (number other : ℕ) → IsFileName name → IsFileName another
+        → number < 2 ^ 48 → other < 2 ^ 48 → numbered name number ≡ numbered another other
+        → (name ≡ another) × (number ≡ other) }
+{}
+
+/// No file has such a name itself: no name of a file has a tilde.
+pub fn numbered_names_are_no_file_names()
+    ensures { (name : List ℕ) → IsNumbered name → IsFileName name → ⊥ }
 {}

@@ -3,8 +3,8 @@ ghost use Rattle.std.specs.Prelude.{◌≡◌, ◌≤◌, ◌↔◌, IfSome, IsT
 ghost use Rattle.folders.specs.Marks.{HasNumbers, IsMark, hidden_name};
 
 use crate::reading::guess;
-use crate::spelling::{put, put_field, put_number, put_stage};
-use arrayvec::ArrayVec;
+use crate::spelling::{put_field, put_number, put_stage};
+use arrayvec::ArrayString;
 use file_messages::FileName;
 
 // The numbers of messages and the sizes of files are below it.
@@ -63,15 +63,15 @@ fn has_numbers(stage: &Stage) -> bool
 
 impl Mark {
     /// The name that the file has meanwhile.
-    pub fn spell(&self, session: u32) -> ArrayVec<u8, 247>
+    pub fn spell(&self, session: u32) -> ArrayString<247>
         requires { HasNumbers self.now.stage }
-        ensures { result.items ≡ hidden_name session self.now }
+        ensures { result.bytes ≡ hidden_name session self.now }
     {
-        let mut text = ArrayVec::new();
-        put_field(&mut text, b".np");
+        let mut text = ArrayString::new();
+        put_field(&mut text, ".np");
         put_number::<10>(&mut text, u64::from(session));
         put_stage(&mut text, &self.stage);
-        put(&mut text, self.name.as_slice());
+        text.push_str(self.name.as_str());
         text
     }
 
@@ -83,7 +83,7 @@ impl Mark {
         ensures only { (mark : Mark) → IsMark mark → text.now ≡ hidden_name session mark → result ≡ Some mark }
     {
         let mark = guess(text)?;
-        if has_numbers(&mark.stage) && mark.spell(session).as_slice() == text {
+        if has_numbers(&mark.stage) && mark.spell(session).as_str().as_bytes() == text {
             Some(mark)
         } else {
             None

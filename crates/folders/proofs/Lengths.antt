@@ -1,10 +1,11 @@
--- How long the name of a mark is.
-use Rattle.std.proofs.Common.{ℕ, ◌+◌, ◌^◌, ◌<◌, ◌≤◌, List, [], ◌∷◌, length, decimal, arith}
+-- How long the names of files in their folders are.
+use Rattle.std.proofs.Common.{ℕ, ◌+◌, ◌^◌, ◌<◌, ◌≤◌, List, [], ◌∷◌, length, decimal, arith, inl, inr, ap}
 use Rattle.std.proofs.lemmas.List.{length-append}
 use Rattle.std.proofs.lemmas.Fmt.{length-decimal-le}
 use Rattle.hex.specs.Hex.{encode_lower, lower_digits}
 use Rattle.hex.proofs.HexLemmas.{length-encode_with}
 use Rattle.file_messages.proofs.Names.{short_name}
+use Rattle.folders.specs.ShownNames.{IsShownName}
 use Rattle.folders.specs.Marks.{HasNumbers, HasDigest, IsMark, dashed, stage_fields, hidden_name}
 use Rattle.folders.specs.declared.mark.Mark.{Mark}
 use Rattle.folders.specs.declared.mark.Stage.{Stage}
@@ -31,3 +32,9 @@ pub hidden_length : (session : ℕ) (mark : Mark) → session < 2 ^ 32 → IsMar
 hidden_length session mark fits is =
     let rest = stage_length mark.stage mark.name is.numbers is.digest (short_name mark.name is.name) in
     omega (arith, field_then (decimal session) (stage_fields mark.stage) mark.name 10 232 (length-decimal-le 10 session (omega arith) (omega arith) (omega arith)) rest)
+
+pub shown_length : (name : List ℕ) → IsShownName name → length name ≤ 144
+shown_length name (inl own) = omega (arith, short_name name own)
+shown_length name (inr (front, number, is_name, low, shape)) =
+    let digits = length-decimal-le 15 number (omega arith) (omega (arith, low)) (omega (arith, low)) in
+    omega (arith, digits, short_name front is_name, ap length shape, length-append front (126 ∷ decimal number))

@@ -1,10 +1,10 @@
-//! The laws of the names of files in their folders. Each is a function without parameters and without a result whose contract is the
-//! law; calling it does nothing.
+//! The laws of the names of files in their folders. Each is a function without parameters and without
+//! a result whose contract is the law; calling it does nothing.
 
 ghost use Rattle.std.specs.Prelude.{◌≡◌, ◌^◌, ◌<◌, ◌≤◌, ℕ, List, length};
 ghost use Rattle.file_messages.specs.FileNames.{IsFileName};
 ghost use Rattle.folders.specs.Marks.{IsMark, hidden_name};
-ghost use Rattle.folders.specs.ShownNames.{IsNumbered, numbered};
+ghost use Rattle.folders.specs.ShownNames.{IsNumbered, IsShownName, numbered};
 ghost use Rattle.folders.specs.declared.mark.Mark.{Mark};
 
 /// No two marks have one name, also not in two sessions.
@@ -20,19 +20,24 @@ pub fn hidden_names_fit()
         → length (hidden_name session mark) ≤ 247 }
 {}
 
-/// No file that waits to be sent has such a name: its name begins with a letter or a digit.
+/// No file that goes over a relay has such a name, since it begins with a dot.
 pub fn hidden_names_are_no_file_names()
     ensures { (session : ℕ) (mark : Mark) → IsFileName (hidden_name session mark) → ⊥ }
 {}
 
-/// Two files whose last messages have different numbers have different names with numbers.
+/// A name with a number is that of one name and one number.
 pub fn numbered_names_are_one()
     ensures { (name another : List ℕ) (number other : ℕ) → IsFileName name → IsFileName another
         → number < 2 ^ 48 → other < 2 ^ 48 → numbered name number ≡ numbered another other
         → (name ≡ another) × (number ≡ other) }
 {}
 
-/// No file has such a name itself: no name of a file has a tilde.
+/// No file has such a name itself, since no name of a file has a tilde.
 pub fn numbered_names_are_no_file_names()
     ensures { (name : List ℕ) → IsNumbered name → IsFileName name → ⊥ }
+{}
+
+/// A name under which a file is shown has at most 144 bytes.
+pub fn shown_names_fit()
+    ensures { (name : List ℕ) → IsShownName name → length name ≤ 144 }
 {}

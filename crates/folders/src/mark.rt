@@ -1,5 +1,5 @@
 // How far the one file is that is being sent, as its name tells it.
-ghost use Rattle.std.specs.Prelude.{◌≡◌, ◌≤◌, ◌↔◌, IfSome, IsTrue, Some, length};
+ghost use Rattle.std.specs.Prelude.{◌≡◌, ◌↔◌, IfSome, IsTrue, Some};
 ghost use Rattle.folders.specs.Marks.{HasNumbers, IsMark, hidden_name};
 
 use crate::reading::guess;
@@ -62,7 +62,7 @@ fn has_numbers(stage: &Stage) -> bool
 }
 
 impl Mark {
-    /// The name that the file has meanwhile.
+    /// The name that the file has meanwhile; its numbers have to be in the ranges that `Stage` tells.
     pub fn spell(&self, session: u32) -> ArrayString<247>
         requires { HasNumbers self.now.stage }
         ensures { result.bytes ≡ hidden_name session self.now }

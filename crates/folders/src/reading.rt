@@ -38,13 +38,15 @@ fn number_of(digits: &[u8]) -> Option<u64>
 }
 
 fn digest_of(digits: &[u8]) -> Option<[u8; 32]>
-    ensures { (digest : List ℕ) → length digest ≡ 32 → IsBytes digest → digits.now ≡ encode_lower digest → result ≡ Some digest }
+    ensures { (digest : List ℕ) → length digest ≡ 32 → IsBytes digest → digits.now ≡ encode_lower digest
+        → result ≡ Some digest }
 {
     let mut digest = [0; 32];
     hex::decode_to_slice(digits, &mut digest).ok()?;
     Some(digest)
 }
 
+// The number before the first dash, and what stands behind that.
 fn number(text: &[u8]) -> Option<(u64, &[u8])>
     ensures { (n : ℕ) (back : List ℕ) → n < 2 ^ 64 → text.now ≡ decimal n ++ 45 ∷ back
         → IsFound result (λ read. (read.0 ≡ n) × (read.1.now ≡ back)) }
@@ -53,6 +55,7 @@ fn number(text: &[u8]) -> Option<(u64, &[u8])>
     Some((number_of(digits)?, back))
 }
 
+// How far a file is that is being sent, and what stands behind that.
 fn sending(text: &[u8]) -> Option<(Stage, &[u8])>
     ensures { (start message size : ℕ) (digest back : List ℕ) → HasNumbers (Sending start message size digest)
         → HasDigest (Sending start message size digest)
@@ -75,8 +78,10 @@ fn sending(text: &[u8]) -> Option<(Stage, &[u8])>
     Some((stage, back))
 }
 
+// How far a file is, and what stands behind that.
 fn stage(text: &[u8]) -> Option<(Stage, &[u8])>
-    ensures { (stage : Stage) (back : List ℕ) → HasNumbers stage → HasDigest stage → text.now ≡ dashed (stage_fields stage) back
+    ensures { (stage : Stage) (back : List ℕ) → HasNumbers stage → HasDigest stage
+        → text.now ≡ dashed (stage_fields stage) back
         → IsFound result (λ read. (read.0 ≡ stage) × (read.1.now ≡ back)) }
 {
     match text {

@@ -1,5 +1,5 @@
 -- What the end of a sender of a stream says.
-use Rattle.std.proofs.Common.{◌≡◌, ◌⊎◌, ℕ, Bool, true, false, List, Option, inl, inr, refl, sym, ◌∙◌}
+use Rattle.std.proofs.Common.{◌≡◌, ◌⊎◌, ℕ, Bool, true, false, List, Option, inl, inr, refl}
 use Rattle.std.specs.Io.KnownBytes.{Appends}
 use Rattle.pump_link.specs.Causes.{AppendsFront}
 use Rattle.peers.specs.Appending.{appended_line}

@@ -1,4 +1,4 @@
-use Rattle.std.proofs.Common.{◌≡◌, inl, inr, sym, ◌∙◌, subst}
+use Rattle.std.proofs.Common.{inl, inr, sym, ◌∙◌, subst}
 use Rattle.dispatch.specs.Appendings.{TellsEnd}
 use Rattle.dispatch.specs.LiveEnds.{IsNoDiskEnd}
 use Rattle.commands.specs.declared.command_end.CommandEnd.{CommandEnd}

@@ -1,5 +1,5 @@
 -- Each return is answered whole: most clauses speak of another command than the one that the words are.
-use Rattle.std.proofs.Common.{rules, inl, inr, refl, sym, ◌∙◌, subst}
+use Rattle.std.proofs.Common.{rules, inl, inr, refl, sym, subst}
 use Rattle.command_line.specs.declared.command.Command.TheVariants as commands
 use Rattle.dispatch.proofs.Asked.{asks, asks_none, live_alone, live_one, is_not, other, not_wrap, not_script, not_beside, never_wrap, never_script, never_beside, messages_asked, messages_nothing, tells_asked, tells_nothing, formats_asked, formats_nothing, shows_asked, shows_nothing, migrates_asked, migrates_nothing, wraps_asked, wraps_nothing, unwraps_asked, unwraps_nothing, exercise_asked}
 use Rattle.dispatch.proofs.Caused.{end_causes, unwrap_causes, send_causes, chain_causes, told_not, exercise_not, audit_not, compare_not, end_in, unwrap_in, send_in, replay_in, told_in, exercise_in, audit_in, compare_in}

@@ -79,13 +79,13 @@ fn is_made_by_one<R: Files<File = File>>(
 }
 
 fn reads_whole_files<R: Files<File = File>>(rt: &impl Abort, shelf: &mut FileShelf<'_, R>) {
-    for (name, length, front) in [
+    for (name, length, prefix) in [
         ("7.low", Ok(5), *b"rel"),
         ("table", Err(ShelfFault::Failed), *b"___"),
     ] {
         let mut into = *b"___";
         assert!(rt; shelf.whole(name, &mut into) == length);
-        assert_eq!(rt; into, front);
+        assert_eq!(rt; into, prefix);
     }
     assert_eq!(rt; shelf.faults(), 1);
 }

@@ -10,8 +10,8 @@ use std::marker::Model;
 /// How many bytes one read takes in at most.
 const ROOM: usize = 2048;
 
-/// Bytes that were read and are not given yet. Contracts see the list of them. They have memory of their own, so a link is small
-/// where it is moved.
+/// Bytes that were read and are not given yet. Contracts see the list of them. They have memory of
+/// their own, so a link is small where it is moved.
 #[derive(Drop)]
 pub struct ReadAhead {
     bytes: Vec<u8>,

@@ -66,8 +66,8 @@ impl Write for Patient<'_> {
 }
 
 impl<'a> TcpLink<'a> {
-    /// A link over this connection, whose bytes are sent at once and not gathered first. It takes memory for what is read
-    /// ahead.
+    /// A link over this connection, whose bytes are sent at once and not gathered first. It takes
+    /// memory for what is read ahead.
     pub(crate) fn over(
         alloc: Global,
         stream: TcpStream,

@@ -115,13 +115,13 @@ fn visit<S: Shelf>(shelf: &mut S, name: DiskName, failing: u64) -> Result<u64, S
 
 // A file is read as far as it fits, and its length told; one that isn't there fails.
 fn files_are_read<S: Shelf>(rt: &impl Abort, shelf: &mut S) {
-    for (name, result, front) in [
+    for (name, result, prefix) in [
         ("table", Ok(4), *b"row"),
         ("chair", Err(ShelfFault::Failed), *b"___"),
     ] {
         let mut into = *b"___";
         let read = shelf.whole(name, &mut into);
-        assert_eq!(rt; (read, into), (result, front));
+        assert_eq!(rt; (read, into), (result, prefix));
     }
     assert_eq!(rt; shelf.faults(), 1);
 }

@@ -7,7 +7,7 @@ ghost use Rattle.stable_buffer.specs.Format.{FormatStands, second_of};
 ghost use Rattle.stable_buffer.specs.Register.{IsReady, register_disk, register_value};
 
 use disk_model::{Disk, Role};
-use pump_frame::{Name, SessionRow};
+use pump_frame::SessionRow;
 use stable_buffer::{Register, format};
 use std::process::Abort;
 
@@ -18,20 +18,7 @@ pub fn row(rt: &impl Abort, message: u32) -> SessionRow
     ensures lawful { IsLawfulRow result }
     ensures size { result.message ≡ message }
 {
-    SessionRow {
-        id: 1,
-        low: Name::from_slice(b"weather").expect(rt, "a name"),
-        high: Name::from_slice(b"watch").expect(rt, "a name"),
-        capacity: 3,
-        message,
-        window: 2,
-        start: 20000,
-        longest: 100_000,
-        resend: 500_000,
-        low_port: 4001,
-        high_port: 4002,
-        coarse: false,
-    }
+    fixtures::row(message).expect(rt, "a row")
 }
 
 fn second(role: Role) -> u64

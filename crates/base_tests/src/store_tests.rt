@@ -57,14 +57,14 @@ fn high_bytes<D: Disk + Drop>(rt: &impl Abort, disk: D, removes: bool) -> [u8; 8
 }
 
 // A high disk of the row begins with these bytes; all others are zero.
-const FRONT: [u8; 20] = [
+const PREFIX: [u8; 20] = [
     0x4E, 0x50, 0x44, 0x31, 0x48, 2, 0, 0, 0, 0, 0, 1, 0, 0, 0, 3, 0, 0, 0, 8,
 ];
 
 #[test]
 fn the_bytes_of_a_high_disk(rt: HostRuntime) -> Result<(), Fail> {
     let mut bytes = [0; 80];
-    bytes[..20].copy_from_slice(&FRONT);
+    bytes[..20].copy_from_slice(&PREFIX);
     assert_eq!(rt;
         high_bytes(&rt, PlainDisk::new(rt.alloc(), 80)?, false),
         bytes

@@ -1,6 +1,6 @@
 -- The lines of a chain, and how they end.
 use Rattle.std.proofs.Common.{◌≡◌, ℕ, ◌+◌, ◌-◌, ◌^◌, ◌<◌, inl, inr, min, List, [], ◌∷◌, ◌++◌, Option, length, refl, sym, ap, ◌∙◌, subst, append_assoc, append-nil, arith}
-use Rattle.std.specs.Io.KnownBytes.{Appends, IsAtEnd}
+use Rattle.std.specs.Io.KnownBytes.{IsAtEnd}
 use Rattle.disk_model.specs.Disk.{Meaning}
 use Rattle.disk_model.specs.declared.disk.Disk.{Ghosts}
 use Rattle.pump_chain.specs.Chained.{Chained, Share, Skipped, OfFirst, OfSecond, MakesFirst, MakesSecond, OfNone, share, LeadsBy, ChainLeads, ChainRefuses}
@@ -9,8 +9,7 @@ use Rattle.pump_chain.specs.Failing.{FailNoLess}
 use Rattle.pump_chain.specs.Standing.{ChainStands, ChainStandsOrFails, ChainBreaks, ChainOverfills}
 use Rattle.pump_chain.specs.declared.chain.Chain.{Chain}
 use Rattle.pump_frame.specs.declared.row.SessionRow.{SessionRow}
-use Rattle.pump_link.specs.Causes.{AppendsFront}
-use Rattle.pump_link.proofs.Known.{Appends-then}
+use Rattle.pump_link.specs.Causes.{AppendsPrefix}
 use Rattle.disk_model.specs.declared.name.Role.{Role}
 use Rattle.script_reader.specs.declared.event.Event.{Event}
 use Rattle.script_reader.specs.declared.fault.Fault.{Fault}
@@ -20,20 +19,21 @@ use Rattle.script_reader.specs.declared.lines.Lined.TheVariants as lined
 use Rattle.script_reader.specs.Lines.{LineReading, to_come, IsNextLine}
 use Rattle.script_reader.specs.Openings.{Openings}
 use Rattle.script_reader.specs.Transcript.{text, fault_line}
-use Rattle.script_replay.specs.Replays.{fault_after}
+use Rattle.script_replay.specs.Replays.{fault_after, IsNear}
+use Rattle.script_replay.specs.Outputs.{Gathers}
 use Rattle.script_replay.specs.Runners.{Closes}
 use Rattle.script_replay.specs.declared.ended.Ended.{Ended}
 use Rattle.script_replay.specs.declared.ended.Ended.TheVariants as ended
-use Rattle.script_replay.proofs.Gathered.{text-more, front_more}
+use Rattle.script_replay.proofs.Gathered.{text-more, prefix_more, appends_then, prefix_then, gathers_then}
 use Rattle.script_replay.proofs.SoFar.{next_line, near_next, one_left}
 use Rattle.chain_replay.specs.Ends.{EndsChain}
 use Rattle.chain_replay.specs.Faults.{IsHalted, ChainStops, NamesWhatFailed}
 use Rattle.chain_replay.specs.Opened.{Shelved}
-use Rattle.chain_replay.specs.Private.{AreOf, FailsIn, HasRead, TurnGoes, lent}
+use Rattle.chain_replay.specs.Private.{AreOf, FailsIn, HasRead, LineGoes, lent}
 use Rattle.chain_replay.specs.Replays.{IsKept, Replayed, IsFinished, EndsWith}
 use Rattle.chain_replay.specs.Scripts.{NoPump, LeadTo, BothPumps}
-use Rattle.chain_replay.specs.declared.turn.Outcome.{Outcome}
-use Rattle.chain_replay.specs.declared.turn.Outcome.TheVariants as outcomes
+use Rattle.chain_replay.specs.declared.applying.Outcome.{Outcome}
+use Rattle.chain_replay.specs.declared.applying.Outcome.TheVariants as outcomes
 use Rattle.chain_replay.proofs.Failed.{named_since}
 use Rattle.chain_replay.proofs.Parts.{their_own, are_sound}
 use Rattle.chain_replay.proofs.Reading.{so_far_more, halted_line}
@@ -82,27 +82,24 @@ or_fails m chain c s = record { first = inl s.first; first_row = s.first_row; se
 
 -- ---- what was written ----
 
-front_after : (a b c : Option (List ℕ)) (x y : List ℕ) → Appends a b x → AppendsFront b c y → AppendsFront a c (x ++ y)
-front_after a b c x y p (front, rest, e, q) = (x ++ front, rest, ap (λ z. x ++ z) e ∙ sym (append_assoc x front rest), Appends-then a b c x front p q)
-
 -- no such end is a want of memory
 pub closed_memory : (old new : Option (List ℕ)) (before now : ℕ) (bytes : List ℕ) (fault : Fault) (result : Ended) → Closes old new before now bytes (ended.Stopped fault) result → result ≡ ended.Memory → ⊥
 closed_memory old new before now bytes fault result c e = elim c [ inl is ↦ cc (sym is.0 ∙ e) | inr is ↦ cc (sym is.0 ∙ e) ]
 
-module _ (shelf : Shelved) (all left old mid new : Option (List ℕ)) (was now : ℕ) (r : Replayed all) (x : List ℕ) (w : Appends old mid x) where
-  pub stops : (fault : Fault) (result : Ended) (rose risen : ℕ) → EndsWith shelf left was now fault r (x ++ fault_line fault) → Closes mid new rose risen (fault_line fault) (ended.Stopped fault) result
+module _ (shelf : Shelved) (all left old mid new : Option (List ℕ)) (was now : ℕ) (r : Replayed all) (held x : List ℕ) (w : Gathers [] held old mid x) where
+  pub stops : (fault : Fault) (result : Ended) (rose risen : ℕ) → EndsWith shelf left was now fault r (x ++ fault_line fault) → Closes mid new rose risen (held ++ fault_line fault) (ended.Stopped fault) result
       → EndsChain shelf all left old new was now result
   stops fault result rose risen e c =
       elim c [
-        | inl is ↦ rw is.0 (r, x ++ fault_line fault, e, Appends-then old mid new x (fault_line fault) w is.1)
-        | inr is ↦ rw is.0 (r, x ++ fault_line fault, inr (inr (fault, e)), front_after old mid new x (fault_line fault) w is.1)
+        | inl is ↦ rw is.0 (r, x ++ fault_line fault, e, appends_then [] held old mid new x (fault_line fault) w is.1)
+        | inr is ↦ rw is.0 (r, x ++ fault_line fault, inr (inr (fault, e)), prefix_then [] held old mid new x (fault_line fault) w is.1)
       ]
 
-  pub finishes : (last : List ℕ) (result : Ended) (rose risen : ℕ) → IsFinished shelf r (x ++ last) → Closes mid new rose risen last ended.Done result → EndsChain shelf all left old new was now result
+  pub finishes : (last : List ℕ) (result : Ended) (rose risen : ℕ) → IsFinished shelf r (x ++ last) → Closes mid new rose risen (held ++ last) ended.Done result → EndsChain shelf all left old new was now result
   finishes last result rose risen e c =
       elim c [
-        | inl is ↦ rw is.0 (r, x ++ last, e, Appends-then old mid new x last w is.1)
-        | inr is ↦ rw is.0 (r, x ++ last, inr (inl e), front_after old mid new x last w is.1)
+        | inl is ↦ rw is.0 (r, x ++ last, e, appends_then [] held old mid new x last w is.1)
+        | inr is ↦ rw is.0 (r, x ++ last, inr (inl e), prefix_then [] held old mid new x last w is.1)
       ]
 
 -- ---- after the lines so far ----
@@ -123,13 +120,23 @@ module _ {D : Type 0} {g : Ghosts D} (m : Meaning D) (start chain : Chain D g) (
     cut_short : (fault : Fault) → ChainStandsOrFails m chain d → AreOf one two d → IsHalted rest left (length h.0) was now (BothPumps one two d) fault → EndsWith shelf left was now fault r (text events ++ fault_line fault)
     cut_short fault stands are halted = inl (record { halted = halted; output_is = refl; disks = kept d h.0 events stands are h.1.leads })
 
-    module _ (mid new : Option (List ℕ)) (w : Appends old mid (text events)) (result : Ended) (rose risen : ℕ) where
-      pub halts : (fault : Fault) → ChainStandsOrFails m chain d → AreOf one two d → IsHalted rest left (length h.0) was now (BothPumps one two d) fault
-          → Closes mid new rose risen (fault_line fault) (ended.Stopped fault) result → EndsChain shelf all left old new was now result
-      halts fault stands are halted c = stops shelf all left old mid new was now r (text events) w fault result rose risen (cut_short fault stands are halted) c
+    -- what is held could not be handed on
+    pub unshown : (held : List ℕ) (mid new : Option (List ℕ)) → Gathers [] held old mid (text events) → ChainStandsOrFails m chain d → AreOf one two d → IsNear rest left → AppendsPrefix mid new held
+        → EndsChain shelf all left old new was now ended.Write
+    unshown held mid new w stands are near p = (
+      r,
+      text events ++ [],
+      inl (append-nil (text events), inr (inl near), kept d h.0 events stands are h.1.leads),
+      prefix_then [] held old mid new (text events) [] w (prefix_more mid new held [] p),
+    )
 
-      pub ends : ChainStandsOrFails m chain d → AreOf one two d → IsAtEnd rest → Closes mid new rose risen (text (ends_of d)) ended.Done result → EndsChain shelf all left old new was now result
-      ends stands are at_end c = finishes shelf all left old mid new was now r (text events) w (text (ends_of d)) result rose risen (record {
+    module _ (held : List ℕ) (mid new : Option (List ℕ)) (w : Gathers [] held old mid (text events)) (result : Ended) (rose risen : ℕ) where
+      pub halts : (fault : Fault) → ChainStandsOrFails m chain d → AreOf one two d → IsHalted rest left (length h.0) was now (BothPumps one two d) fault
+          → Closes mid new rose risen (held ++ fault_line fault) (ended.Stopped fault) result → EndsChain shelf all left old new was now result
+      halts fault stands are halted c = stops shelf all left old mid new was now r held (text events) w fault result rose risen (cut_short fault stands are halted) c
+
+      pub ends : ChainStandsOrFails m chain d → AreOf one two d → IsAtEnd rest → Closes mid new rose risen (held ++ text (ends_of d)) ended.Done result → EndsChain shelf all left old new was now result
+      ends stands are at_end c = finishes shelf all left old mid new was now r held (text events) w (text (ends_of d)) result rose risen (record {
         ended = at_end;
         one = one;
         two = two;
@@ -170,34 +177,34 @@ module _ {D : Type 0} {g : Ghosts D} (m : Meaning D) (start chain : Chain D g) (
     refused : ChainRefuses d line → IsHalted (to_come reading before) left (length h.0) was now (BothPumps one two d) refused_fault
     refused denied = halted_line o all reading after before left (BothPumps one two d) events h line n (min (length h.0 + 1) (2 ^ 32 - 1)) was now denied (let same = h.2 in omega (arith, same, n.4, few)) (omega arith)
 
-    module _ (mid then new : Option (List ℕ)) (w : Appends old mid (text events)) (are : AreOf one two d) (before_line : Chain D g) (low : FailNoLess m start before_line) where
+    module _ (held later : List ℕ) (mid then new : Option (List ℕ)) (w : Gathers [] held old mid (text events)) (are : AreOf one two d) (before_line : Chain D g) (low : FailNoLess m start before_line) where
       -- the disk that failed in the line failed since the start
       named_by : (fault : Fault) → (first ≡ d.first.row.id → NamesWhatFailed (FailsIn m d.first.row.id d.second.row.id before_line chain) fault) → NamesWhatFailed (FailsIn m one.id two.id start chain) fault
       named_by fault names =
           named_since m start before_line chain one.id two.id fault low
           (subst (λ (x : ℕ × ℕ). NamesWhatFailed (FailsIn m x.0 x.1 before_line chain) fault) (λ i. (are.0 i, are.1 i)) (names (is_first ∙ sym are.0)))
 
-      -- what it prints was written
-      both : (printed : List Event) → Appends mid then (text printed) → Appends old then (text (events ++ printed))
-      both printed p = rw (text-more events printed) (Appends-then old mid then (text events) (text printed) w p)
+      -- what it prints is gathered too
+      both : (printed : List Event) → Gathers held later mid then (text printed) → Gathers [] later old then (text (events ++ printed))
+      both printed p = rw (text-more events printed) (gathers_then [] held later old mid then (text events) (text printed) w p)
 
-      pub stops_by : (e : Chained) (printed : List Event) (fault : Fault) (result : Ended) (rose risen : ℕ) → ChainStops first d line e printed fault → ChainStandsOrFails m chain e → (first ≡ d.first.row.id → NamesWhatFailed (FailsIn m d.first.row.id d.second.row.id before_line chain) fault) → Appends mid then (text printed)
-          → Closes then new rose risen (fault_line fault) (ended.Stopped fault) result → EndsChain shelf all left old new was now result
+      pub stops_by : (e : Chained) (printed : List Event) (fault : Fault) (result : Ended) (rose risen : ℕ) → ChainStops first d line e printed fault → ChainStandsOrFails m chain e → (first ≡ d.first.row.id → NamesWhatFailed (FailsIn m d.first.row.id d.second.row.id before_line chain) fault) → Gathers held later mid then (text printed)
+          → Closes then new rose risen (later ++ fault_line fault) (ended.Stopped fault) result → EndsChain shelf all left old new was now result
       stops_by e printed fault result rose risen s stands names p c =
-          stops shelf all left old then new was now r_line (text (events ++ printed)) (both printed p) fault result rose risen (stopped e printed fault s stands (of_stops one two d are first line e printed fault s) (named_by fault names)) c
+          stops shelf all left old then new was now r_line later (text (events ++ printed)) (both printed p) fault result rose risen (stopped e printed fault s stands (of_stops one two d are first line e printed fault s) (named_by fault names)) c
 
-      pub refuses_by : (printed : List Event) (number : ℕ) (result : Ended) (rose risen : ℕ) → ChainRefuses d line → printed ≡ [] → ChainStands m chain d → Appends mid then (text printed) → number ≡ after.number
-          → Closes then new rose risen (fault_line (faults.Script number)) (ended.Stopped (faults.Script number)) result → EndsChain shelf all left old new was now result
+      pub refuses_by : (printed : List Event) (number : ℕ) (result : Ended) (rose risen : ℕ) → ChainRefuses d line → printed ≡ [] → ChainStands m chain d → Gathers held later mid then (text printed) → number ≡ after.number
+          → Closes then new rose risen (later ++ fault_line (faults.Script number)) (ended.Stopped (faults.Script number)) result → EndsChain shelf all left old new was now result
       refuses_by printed number result rose risen denied none stands p is c =
           let halted = halted_line o all reading after before left (BothPumps one two d) events h line n number was now denied is (omega (arith, is, few)) in
-          stops shelf all left old then new was now r_line (text (events ++ printed)) (both printed p) (faults.Script number) result rose risen (inl (record {
+          stops shelf all left old then new was now r_line later (text (events ++ printed)) (both printed p) (faults.Script number) result rose risen (inl (record {
             halted = halted;
             output_is = ap (λ (l : List Event). text l ++ fault_line (faults.Script number)) (ap (λ l. events ++ l) none ∙ append-nil events);
             disks = kept d h.0 events (or_fails m chain d stands) are h.1.leads;
           })) c
 
       -- .. or could not be
-      pub unwritten_by : (printed : List Event) (outcome : Outcome) → TurnGoes m first d line before_line chain printed outcome → AppendsFront mid new (text printed) → EndsChain shelf all left old new was now ended.Write
+      pub unwritten_by : (printed : List Event) (outcome : Outcome) → LineGoes m first d line before_line chain printed outcome → AppendsPrefix mid new (held ++ text printed) → EndsChain shelf all left old new was now ended.Write
       unwritten_by printed outcomes.Applied (e, leads, stands) p = (
           let so_far = so_far_more o all reading after before left (BothPumps one two d) events h line n few (BothPumps one two e) printed (e, leads, refl) in (
             record {
@@ -210,18 +217,18 @@ module _ {D : Type 0} {g : Ghosts D} (m : Meaning D) (start chain : Chain D g) (
             },
             text events ++ text printed,
             inl (sym (text-more events printed), inr (inr (line, to_come reading before, next_line reading after before left line n, near_next reading after before left line n)), kept e (h.0 ++ line ∷ []) (events ++ printed) (or_fails m chain e stands) (of_leads one two d are line e printed leads) so_far.leads),
-            front_after old mid new (text events) (text printed) w p,
+            prefix_then [] held old mid new (text events) (text printed) w p,
           ))
       unwritten_by printed outcomes.Refused (denied, none, stands) p = (
         r_line,
         text events ++ fault_line refused_fault,
         inr (inr (refused_fault, inl (record { halted = refused denied; output_is = refl; disks = kept d h.0 events (or_fails m chain d stands) are h.1.leads }))),
-        front_after old mid new (text events) (fault_line refused_fault) w (front_more mid new [] (fault_line refused_fault) (subst (λ (l : List Event). AppendsFront mid new (text l)) none p)),
+        prefix_then [] held old mid new (text events) (fault_line refused_fault) w (prefix_more mid new held (fault_line refused_fault) (subst (λ (l : List ℕ). AppendsPrefix mid new l) (ap (λ (l : List Event). held ++ text l) none ∙ append-nil held) p)),
       )
       unwritten_by printed (outcomes.Stopped fault) (e, s, stands, names) p = (
         r_line,
         text (events ++ printed) ++ fault_line fault,
         inr (inr (fault, stopped e printed fault s stands (of_stops one two d are first line e printed fault s) (named_by fault names))),
-        front_more old new (text (events ++ printed)) (fault_line fault) (rw (text-more events printed) (front_after old mid new (text events) (text printed) w p)),
+        prefix_more old new (text (events ++ printed)) (fault_line fault) (rw (text-more events printed) (prefix_then [] held old mid new (text events) (text printed) w p)),
       )
       unwritten_by printed outcomes.Unwritten h p = absurd h

@@ -38,8 +38,8 @@ use Rattle.two_worlds.specs.Pumps.{disk_at, row_of}
 use Rattle.chain_replay.specs.Faults.{chain_fault, IsHalted, NamesWhatFailed}
 use Rattle.chain_replay.specs.Private.{outcome_by, AllRiseAt, AreOutAt, AreBackAt, HasFailedAt, HasFailed, FailsIn, IsDevice, IsDeviceEnd}
 use Rattle.chain_replay.specs.Scripts.{Begun}
-use Rattle.chain_replay.specs.declared.turn.Outcome.{Outcome}
-use Rattle.chain_replay.specs.declared.turn.Outcome.TheVariants as outcomes
+use Rattle.chain_replay.specs.declared.applying.Outcome.{Outcome}
+use Rattle.chain_replay.specs.declared.applying.Outcome.TheVariants as outcomes
 
 -- ---- the disks come back ----
 

@@ -90,7 +90,7 @@ module _ {D : Type 0} {g : Ghosts D} (m : Meaning D) (before : Places) (one two 
             first_opens = rw is_first found.1.can_open;
             second_opens = rw is_second next.1.can_open;
           };
-          front = rw (is_first, is_second) s.linked;
+          prefix = rw (is_first, is_second) s.linked;
         };
         stands = rw (is_first, is_second) s;
       }

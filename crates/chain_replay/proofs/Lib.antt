@@ -4,7 +4,6 @@ pub mod Failed
 pub mod Joining
 pub mod Mapped
 pub mod Parts
-pub mod Printed
 pub mod Reading
 pub mod Returning
 pub mod Taking

@@ -5,10 +5,10 @@ use Rattle.disk_model.specs.Disk.{Meaning}
 use Rattle.disk_model.specs.declared.disk.Disk.{Ghosts}
 use Rattle.disk_model.specs.declared.name.Role.TheVariants as roles
 use Rattle.pump_chain.specs.Chained.{Chained}
-use Rattle.pump_chain.specs.Standing.{IsLinked, TellFronts, ChainStandsOrFails}
+use Rattle.pump_chain.specs.Standing.{IsLinked, TellPrefixes, ChainStandsOrFails}
 use Rattle.pump_chain.specs.declared.chain.Chain.{Chain}
 use Rattle.pump_chain.proofs.Crashing.{pump_lawful}
-use Rattle.pump_chain.proofs.Fronts.{front_then, kept_front, kept_most}
+use Rattle.pump_chain.proofs.Prefixes.{prefix_then, kept_prefix, kept_most}
 use Rattle.pump_core.specs.Events.{with_kept}
 use Rattle.pump_core.specs.Lawful.{IsLawful}
 use Rattle.pump_core.specs.Replies.{Sent}
@@ -38,12 +38,12 @@ left_so m after id t row s back is h =
     rw (ap reading_in (back roles.Low), ap reading_in (back roles.High), ap reading_in (back roles.Recv)) (subst (λ (r : SessionRow). StandForLeft r s.past.world (m.reading t.low) (m.reading t.high) (m.reading t.recv)) is h)
 
 -- .. and of both tells four lists of which each is a prefix of the next, with every removed message at its receiver
-tell_fronts : (one two : SessionRow) (w v : World) (low high recv next_low next_high next_recv : List ℕ) → StandForLeft one w low high recv → StandForLeft two v next_low next_high next_recv → IsLinked w v
-    → (f : TellFronts one two low high recv next_low next_high next_recv)
+tell_prefixes : (one two : SessionRow) (w v : World) (low high recv next_low next_high next_recv : List ℕ) → StandForLeft one w low high recv → StandForLeft two v next_low next_high next_recv → IsLinked w v
+    → (f : TellPrefixes one two low high recv next_low next_high next_recv)
     × (f.tell.removed ≤ length f.received) × (f.next_tell.removed ≤ length f.next_received)
-tell_fronts one two w v low high recv next_low next_high next_recv (a, b, c, s) (x, y, z, t) linked =
-    let front = s.lawful.delivered.prefix in
-    let next_front = t.lawful.delivered.prefix in (
+tell_prefixes one two w v low high recv next_low next_high next_recv (a, b, c, s) (x, y, z, t) linked =
+    let prefix = s.lawful.delivered.prefix in
+    let next_prefix = t.lawful.delivered.prefix in (
       record {
         accepted = with_kept a w.storing w.accepted;
         received = with_kept (c && w.taking) w.packet w.received;
@@ -51,20 +51,20 @@ tell_fronts one two w v low high recv next_low next_high next_recv (a, b, c, s) 
         next_received = with_kept (z && v.taking) v.packet v.received;
         tell = record {
           recv_is = s.recv_is;
-          low_is = low_later one _ _ (with_kept a w.storing w.accepted) low s.lawful.delivered.removed (prefix_length _ front.0 _ front.1) s.low_is;
+          low_is = low_later one _ _ (with_kept a w.storing w.accepted) low s.lawful.delivered.removed (prefix_length _ prefix.0 _ prefix.1) s.low_is;
           removed = _;
           high_is = s.high_is;
         };
         next_tell = record {
           recv_is = t.recv_is;
-          low_is = low_later two _ _ (with_kept x v.storing v.accepted) next_low t.lawful.delivered.removed (prefix_length _ next_front.0 _ next_front.1) t.low_is;
+          low_is = low_later two _ _ (with_kept x v.storing v.accepted) next_low t.lawful.delivered.removed (prefix_length _ next_prefix.0 _ next_prefix.1) t.low_is;
           removed = _;
           high_is = t.high_is;
         };
-        next_taken = next_front;
-        sent_on = front_then _ (with_kept true v.storing v.accepted) _ (kept_most x v.storing v.accepted)
-            (front_then _ w.received _ linked (kept_front (c && w.taking) w.packet w.received));
-        taken = front;
+        next_taken = next_prefix;
+        sent_on = prefix_then _ (with_kept true v.storing v.accepted) _ (kept_most x v.storing v.accepted)
+            (prefix_then _ w.received _ linked (kept_prefix (c && w.taking) w.packet w.received));
+        taken = prefix;
       },
       s.lawful.delivered.removed,
       t.lawful.delivered.removed,
@@ -103,7 +103,7 @@ module _ {D : Type 0} {g : Ghosts D} (m : Meaning D) (start chain : Chain D g) (
         second_holds = second;
         first_keeps = keeps_messages c.first.row c.first.past.world _ _ _ (came_lawfully m chain.first c.first.past stands.first) first;
         second_keeps = keeps_messages c.second.row c.second.past.world _ _ _ (came_lawfully m chain.second c.second.past stands.second) second;
-        fronts = tell_fronts c.first.row c.second.row c.first.past.world c.second.past.world _ _ _ _ _ _ first second stands.linked;
+        prefixes = tell_prefixes c.first.row c.second.row c.first.past.world c.second.past.world _ _ _ _ _ _ first second stands.linked;
         others = others;
       }
 

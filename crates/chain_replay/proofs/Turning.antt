@@ -1,6 +1,5 @@
 -- What becomes of a line of a chain.
 use Rattle.std.proofs.Common.{◌≡◌, ℕ, Bool, false, List, Option, None, Some, refl, sym, ◌∙◌, subst}
-use Rattle.std.specs.Io.KnownBytes.{Appends}
 use Rattle.disk_model.specs.Disk.{Meaning}
 use Rattle.disk_model.specs.declared.disk.Disk.{Ghosts}
 use Rattle.pump_chain.specs.Chained.{Chained, added}
@@ -9,20 +8,21 @@ use Rattle.pump_chain.specs.declared.chain.Chain.{Chain}
 use Rattle.script_reader.specs.declared.event.Event.{Event}
 use Rattle.script_reader.specs.declared.line.Line.{Line}
 use Rattle.script_reader.specs.Transcript.{text}
+use Rattle.script_replay.specs.Outputs.{Gathers}
 use Rattle.two_worlds.specs.declared.applied.Stop.{Stop}
 use Rattle.two_worlds.specs.declared.applied.Stop.TheVariants as stops
 use Rattle.two_worlds.specs.LowPumps.{stops_at_disk}
 use Rattle.chain_replay.specs.Faults.{broken_in}
-use Rattle.chain_replay.specs.Private.{outcome_by, FailsIn, TurnGoes, TurnDoes}
-use Rattle.chain_replay.specs.declared.turn.Outcome.{Outcome}
-use Rattle.chain_replay.specs.declared.turn.Outcome.TheVariants as outcomes
+use Rattle.chain_replay.specs.Private.{outcome_by, FailsIn, LineGoes, LineDoes}
+use Rattle.chain_replay.specs.declared.applying.Outcome.{Outcome}
+use Rattle.chain_replay.specs.declared.applying.Outcome.TheVariants as outcomes
 use Rattle.chain_replay.proofs.Broken.{broken_names}
 
 module _ {D : Type 0} {g : Ghosts D} (m : Meaning D) (s t : Chain D g) (first : ℕ) (line : Line) (c : Chained) (printed : List Event) where
-  pub turn_goes : (stop : Option Stop) → ChainApplies m s t line c printed stop → TurnGoes m first c line s t printed (outcome_by first line stop)
-  turn_goes None h = (h.0, h.1, h.2)
-  turn_goes (Some stops.Line) h = (h.0, h.1, h.2)
-  turn_goes (Some (stops.Device role count)) h = (
+  pub line_goes : (stop : Option Stop) → ChainApplies m s t line c printed stop → LineGoes m first c line s t printed (outcome_by first line stop)
+  line_goes None h = (h.0, h.1, h.2)
+  line_goes (Some stops.Line) h = (h.0, h.1, h.2)
+  line_goes (Some (stops.Device role count)) h = (
     h.0,
     (h.1, refl),
     h.2,
@@ -30,19 +30,19 @@ module _ {D : Type 0} {g : Ghosts D} (m : Meaning D) (s t : Chain D g) (first : 
         subst (λ (i : ℕ). FailsIn m c.first.row.id c.second.row.id s t (broken_in i line role) role) (sym is)
         (broken_names m s t c.first.row.id c.second.row.id c h.0 printed count (added c) line role h.1 h.4),
   )
-  turn_goes (Some (stops.Full end length size)) h = (h.0, (h.1, refl), h.2, λ is. tt)
-  turn_goes (Some (stops.Disk role why)) h = absurd h
+  line_goes (Some (stops.Full end length size)) h = (h.0, (h.1, refl), h.2, λ is. tt)
+  line_goes (Some (stops.Disk role why)) h = absurd h
 
-  turn_does_by : (old new : Option (List ℕ)) → Appends old new (text printed) → (stop : Option Stop) → ChainApplies m s t line c printed stop → TurnDoes m first c line s t old new (outcome_by first line stop)
-  turn_does_by old new w None h = (printed, turn_goes None h, w)
-  turn_does_by old new w (Some stops.Line) h = (printed, turn_goes (Some stops.Line) h, w)
-  turn_does_by old new w (Some (stops.Device role count)) h = (printed, turn_goes (Some (stops.Device role count)) h, w)
-  turn_does_by old new w (Some (stops.Full end length size)) h = (printed, turn_goes (Some (stops.Full end length size)) h, w)
-  turn_does_by old new w (Some (stops.Disk role why)) h = absurd h
+  line_does_by : (held later : List ℕ) (old new : Option (List ℕ)) → Gathers held later old new (text printed) → (stop : Option Stop) → ChainApplies m s t line c printed stop → LineDoes m first c line s t held later old new (outcome_by first line stop)
+  line_does_by held later old new w None h = (printed, line_goes None h, w)
+  line_does_by held later old new w (Some stops.Line) h = (printed, line_goes (Some stops.Line) h, w)
+  line_does_by held later old new w (Some (stops.Device role count)) h = (printed, line_goes (Some (stops.Device role count)) h, w)
+  line_does_by held later old new w (Some (stops.Full end length size)) h = (printed, line_goes (Some (stops.Full end length size)) h, w)
+  line_does_by held later old new w (Some (stops.Disk role why)) h = absurd h
 
-  pub turn_does : (old new : Option (List ℕ)) → Appends old new (text printed) → (stop : Option Stop) → ChainApplies m s t line c printed stop → (outcome : Outcome) → outcome ≡ outcome_by first line stop
-      → TurnDoes m first c line s t old new outcome
-  turn_does old new w stop h outcome is = subst (λ o. TurnDoes m first c line s t old new o) (sym is) (turn_does_by old new w stop h)
+  pub line_does : (held later : List ℕ) (old new : Option (List ℕ)) → Gathers held later old new (text printed) → (stop : Option Stop) → ChainApplies m s t line c printed stop → (outcome : Outcome) → outcome ≡ outcome_by first line stop
+      → LineDoes m first c line s t held later old new outcome
+  line_does held later old new w stop h outcome is = subst (λ o. LineDoes m first c line s t held later old new o) (sym is) (line_does_by held later old new w stop h)
 
 up_by : (first : ℕ) (line : Line) (stop : Option Stop) → outcome_by first line stop ≡ outcomes.Applied → stops_at_disk stop ≡ false
 up_by first line None e = refl

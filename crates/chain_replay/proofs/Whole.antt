@@ -20,6 +20,7 @@ use Rattle.chain_replay.specs.Opened.{Shelved}
 use Rattle.chain_replay.specs.Private.{HasRead, ReadsRow, ReadsNoFurther}
 use Rattle.chain_replay.specs.Replays.{IsKept}
 use Rattle.chain_replay.specs.Scripts.{Begun, NoPump, OnePump, BothPumps, MayFollow, AreLinked, LacksPump}
+use Rattle.script_replay.proofs.Gathered.{gathers_none}
 use Rattle.chain_replay.proofs.Ending.{stops}
 use Rattle.chain_replay.proofs.Reading.{row_begins}
 
@@ -32,7 +33,7 @@ no_chain shelf o (BothPumps one two c) printed lacks h = absurd lacks
 pub no_rows : (shelf : Shelved) (o : Openings) (all left old new : Option (List ℕ)) (was now : ℕ) (begun : Begun) (fault : Fault) (result : Ended) (rose risen : ℕ) → LacksPump begun → shelf.waits → ReadsNoFurther o all left was now begun fault
     → Closes old new rose risen (fault_line fault) (ended.Stopped fault) result → EndsChain shelf all left old new was now result
 no_rows shelf o all left old new was now begun fault result rose risen lacks waits r c =
-    stops shelf all left old old new was now (record { openings = o; lines = r.lines; events = []; begun = begun; rest = r.rest; so_far = r.so_far }) [] (Appends-none old) fault result rose risen
+    stops shelf all left old old new was now (record { openings = o; lines = r.lines; events = []; begun = begun; rest = r.rest; so_far = r.so_far }) [] [] (gathers_none [] old) fault result rose risen
     (inl (record { halted = r.halted; output_is = refl; disks = no_chain shelf o begun [] lacks waits })) c
 
 -- .. and the two make no chain
@@ -40,7 +41,7 @@ pub no_pumps : (shelf : Shelved) (o : Openings) (all left old new : Option (List
     → shelf.refuses one two fault → ReadsRow o all left reading (OnePump one) two → reading.number < 2 ^ 32
     → Closes old new rose risen (fault_line fault) (ended.Stopped fault) result → EndsChain shelf all left old new was now result
 no_pumps shelf o all left old new was now reading one two fault result rose risen follows refuses r few c =
-    stops shelf all left old old new was now (record { openings = o; lines = r.lines; events = []; begun = OnePump one; rest = r.rest; so_far = r.so_far }) [] (Appends-none old) fault result rose risen
+    stops shelf all left old old new was now (record { openings = o; lines = r.lines; events = []; begun = OnePump one; rest = r.rest; so_far = r.so_far }) [] [] (gathers_none [] old) fault result rose risen
     (inr (inl (record {
       one = one;
       two = two;

@@ -24,8 +24,8 @@ use Rattle.chain_replay.specs.Scripts.{Begun, Refuses, LacksPump}
 
 -- ---- what is no line of a script ----
 
--- after so many lines: the next one is outside the grammar or can't be applied, or would have the number 2^32; or there is
--- none, and fewer than two pumps have begun
+-- after so many lines: the next one is outside the grammar or can't be applied, or would have the number 2^32; or
+-- there is none, and fewer than two pumps have begun
 abbrev pub IsFaultyAt : ℕ → Option (List ℕ) → Begun → Type 0
 IsFaultyAt number rest begun = IsFaultyBy (Refuses begun) rest
     ⊎ (((number ≡ 2 ^ 32 - 1) × IfSome rest IsSome)
@@ -49,8 +49,8 @@ session_or first line = session_given first (session_in line)
     session_given first None = first
     session_given first (Some session) = session
 
--- the session whose disk of this role fails in a line: at a `step` the receiver's disk is the first session's, from which
--- the message is read that is to be sent on
+-- the session whose disk of this role fails in a line: at a `step` the receiver's disk is the first session's, from
+-- which the message is read that is to be sent on
 abbrev pub broken_in : ℕ → Line → Role → ℕ
 broken_in first (lines.Step session m w) roles.Recv = first
 broken_in first line role = session_or first line
@@ -58,8 +58,10 @@ broken_in first line role = session_or first line
 -- the line can be applied, and stops the chain with this fault, after it has led to d and printed this: a disk fails in
 -- it, or its message does not fit at a receiver
 abbrev pub ChainStops : ℕ → Chained → Line → Chained → List Event → Fault → Type 0
-ChainStops first c line d printed (faults.Device session role) = ChainBreaks c (share c line) role d printed × (session ≡ broken_in first line role)
-ChainStops first c line d printed (faults.Full session end length size) = ChainOverfills c (share c line) d printed end length size × (session ≡ session_or first line)
+ChainStops first c line d printed (faults.Device session role) = ChainBreaks c (share c line) role d printed
+    × (session ≡ broken_in first line role)
+ChainStops first c line d printed (faults.Full session end length size) = ChainOverfills c (share c line) d printed end
+    length size × (session ≡ session_or first line)
 ChainStops first c line d printed fault = ⊥
 
 -- the disk that a fault names failed, where `fails` says which did

@@ -1,5 +1,5 @@
 -- Words of private clauses.
-use Rattle.std.specs.Prelude.{◌≡◌, ◌⊎◌, ℕ, ◌+◌, List, [], ◌∷◌, length, Option, None, Some}
+use Rattle.std.specs.Prelude.{◌≡◌, ◌⊎◌, ℕ, ◌+◌, List, [], ◌∷◌, ◌++◌, length, Option, None, Some}
 use Rattle.std.specs.Io.KnownBytes.{Appends}
 use Rattle.disk_model.specs.Disk.{Meaning}
 use Rattle.disk_model.specs.Shelf.{OnShelf, IsOut}
@@ -12,7 +12,7 @@ use Rattle.pump_chain.specs.declared.chain.Chain.{Chain}
 use Rattle.pump_frame.specs.Counts.{Rose}
 use Rattle.pump_frame.specs.Rows.{IsLawfulRow}
 use Rattle.pump_frame.specs.declared.row.SessionRow.{SessionRow}
-use Rattle.pump_link.specs.Causes.{AppendsFront}
+use Rattle.pump_link.specs.Causes.{AppendsPrefix}
 use Rattle.recovery.specs.declared.trio.Trio.{Trio}
 use Rattle.script_reader.specs.declared.event.Event.{Event}
 use Rattle.script_reader.specs.declared.fault.Fault.{Fault}
@@ -27,6 +27,7 @@ use Rattle.script_replay.specs.Replays.{IsNear, IsTimed}
 use Rattle.script_reader.specs.Readouts.{Sound}
 use Rattle.script_reader.specs.Scripts.{Running, Whole}
 use Rattle.script_reader.specs.Sessions.{events_of}
+use Rattle.script_replay.specs.Outputs.{Gathers}
 use Rattle.script_replay.specs.Runners.{IsLineFault}
 use Rattle.script_replay.specs.Shelves.{Places, disk_name, OfDisks, HasFound}
 use Rattle.world_laws.specs.Disks.{StandForLeft}
@@ -40,8 +41,8 @@ use Rattle.script_replay.specs.declared.ended.Ended.{Ended}
 use Rattle.script_replay.specs.declared.ended.Ended.TheVariants as ended
 use Rattle.two_worlds.specs.declared.applied.Stop.{Stop}
 use Rattle.two_worlds.specs.declared.applied.Stop.TheVariants as stops
-use Rattle.chain_replay.specs.declared.turn.Outcome.{Outcome}
-use Rattle.chain_replay.specs.declared.turn.Outcome.TheVariants as outcomes
+use Rattle.chain_replay.specs.declared.applying.Outcome.{Outcome}
+use Rattle.chain_replay.specs.declared.applying.Outcome.TheVariants as outcomes
 
 -- ---- the two session lines ----
 
@@ -53,10 +54,12 @@ IsOpens line opens.Wrongly = (begun : Begun) → LacksPump begun → Refuses beg
 
 -- so many lines were read, and begin so much
 abbrev pub HasRead : Openings → Option (List ℕ) → Option (List ℕ) → ℕ → Begun → List Event → Type 0
-HasRead o all rest number begun events = (lines : List Line) × IsSoFar o all rest lines begun events × (length lines ≡ number)
+HasRead o all rest number begun events = (lines : List Line) × IsSoFar o all rest lines begun events
+    × (length lines ≡ number)
 
 -- .. and the next one is a `session` line of this row
-pub record ReadsRow (o : Openings) (all left : Option (List ℕ)) (reading : LineReading) (begun : Begun) (row : SessionRow) : Type 0 where
+pub record ReadsRow (o : Openings) (all left : Option (List ℕ)) (reading : LineReading) (begun : Begun)
+    (row : SessionRow) : Type 0 where
   pub lines : List Line
   pub rest : Option (List ℕ)
   pub so_far : IsSoFar o all rest lines begun []
@@ -65,7 +68,8 @@ pub record ReadsRow (o : Openings) (all left : Option (List ℕ)) (reading : Lin
   pub near : IsNear rest left
 
 -- .. and it is not read on, with this fault
-pub record ReadsNoFurther (o : Openings) (all left : Option (List ℕ)) (was now : ℕ) (begun : Begun) (fault : Fault) : Type 0 where
+pub record ReadsNoFurther (o : Openings) (all left : Option (List ℕ)) (was now : ℕ) (begun : Begun) (fault : Fault) :
+    Type 0 where
   pub lines : List Line
   pub rest : Option (List ℕ)
   pub so_far : IsSoFar o all rest lines begun []
@@ -86,9 +90,11 @@ AreBackAt m places session t = (role : Role) → places (disk_name session role)
 abbrev pub AreOut : Places → ℕ → Type 0
 AreOut places session = (role : Role) → IsOut (places (disk_name session role))
 
--- where the count of a disk of a session that is off the shelf rose since it was given, the shelf's rises when it comes back
+-- where the count of a disk of a session that is off the shelf rose since it was given, the shelf's rises when it
+-- comes back
 abbrev pub AllRiseAt : {D : Type 0} → Meaning D → Places → ℕ → Trio D → ℕ → ℕ → Type 0
-AllRiseAt m places session t before now = (role : Role) → RisesAt places session role (m.count (disk_in role t)) before now
+AllRiseAt m places session t before now = (role : Role)
+    → RisesAt places session role (m.count (disk_in role t)) before now
 
 -- a call of one of three disks failed since they were these
 abbrev pub HasFailedAt : {D : Type 0} → Meaning D → Trio D → Trio D → Type 0
@@ -96,7 +102,8 @@ HasFailedAt m old new = (role : Role) × Rose (m.count (disk_in role old)) (m.co
 
 -- .. of a disk of a chain
 abbrev pub HasFailed : {D : Type 0} {g : _} → Meaning D → Chain D g → Chain D g → Type 0
-HasFailed m s t = HasFailedAt m (trio_of s.first) (trio_of t.first) ⊎ HasFailedAt m (trio_of s.second) (trio_of t.second)
+HasFailed m s t = HasFailedAt m (trio_of s.first) (trio_of t.first)
+    ⊎ HasFailedAt m (trio_of s.second) (trio_of t.second)
 
 -- .. of this role, of the session of the chain that has this number
 abbrev pub FailsIn : {D : Type 0} {g : _} → Meaning D → ℕ → ℕ → Chain D g → Chain D g → ℕ → Role → Type 0
@@ -108,7 +115,8 @@ FailsIn m one two s t session role =
 abbrev pub AreHome : Places → ℕ → Type 0
 AreHome places session = (role : Role) → IsOut (places (disk_name session role)) → ⊥
 
--- its disks are on the shelf, and hold the world that it came to, in which each call that is unfinished was kept or lost
+-- its disks are on the shelf, and hold the world that it came to, in which each call that is unfinished was kept or
+-- lost
 abbrev pub AreLeftAt : Places → ℕ → Running → Type 0
 AreLeftAt places session s = OfDisks places session (StandForLeft s.row s.past.world)
 
@@ -122,7 +130,8 @@ IsUntaken fails one two None = Unit {0}
 IsUntaken fails one two (Some fault) = NamesFailed fails one two fault
 
 -- the chain of two rows begins on what is read of their disks
-pub record Joins {D : Type 0} {g : _} (m : Meaning D) (before : Places) (one two : SessionRow) (chain : Chain D g) : Type 0 where
+pub record Joins {D : Type 0} {g : _} (m : Meaning D) (before : Places) (one two : SessionRow) (chain : Chain D g) :
+    Type 0 where
   pub openings : Openings
   pub first_found : HasFound before one (openings one.id)
   pub second_found : HasFound before two (openings two.id)
@@ -139,8 +148,10 @@ AreOf one two c = (c.first.row.id ≡ one.id) × (c.second.row.id ≡ two.id)
 abbrev pub outcome_by : ℕ → Line → Option Stop → Outcome
 outcome_by first line None = outcomes.Applied
 outcome_by first line (Some stops.Line) = outcomes.Refused
-outcome_by first line (Some (stops.Device role count)) = outcomes.Stopped (faults.Device (broken_in first line role) role)
-outcome_by first line (Some (stops.Full end length size)) = outcomes.Stopped (faults.Full (session_or first line) end length size)
+outcome_by first line (Some (stops.Device role count)) = outcomes.Stopped (faults.Device (broken_in first line role)
+    role)
+outcome_by first line (Some (stops.Full end length size)) = outcomes.Stopped (faults.Full (session_or first line) end
+    length size)
 outcome_by first line (Some (stops.Disk role why)) = outcomes.Stopped (refusal_of (session_or first line) role why)
 
 -- only with the fault of a disk, or of a message that does not fit, is a chain stopped, or none begun
@@ -162,18 +173,23 @@ IsByLine (outcomes.Stopped fault) = IsLineFault fault
 IsByLine outcome = Unit {0}
 
 -- a line that prints this leads on, can't be applied, or stops the chain, which it left as t
-abbrev pub TurnGoes : {D : Type 0} {g : _} → Meaning D → ℕ → Chained → Line → Chain D g → Chain D g → List Event → Outcome → Type 0
-TurnGoes m first c line s t printed outcomes.Applied = (d : Chained) × ChainLeads c line d printed × ChainStands m t d
-TurnGoes m first c line s t printed outcomes.Refused = ChainRefuses c line × (printed ≡ []) × ChainStands m t c
-TurnGoes m first c line s t printed (outcomes.Stopped fault) = (d : Chained) × ChainStops first c line d printed fault × ChainStandsOrFails m t d
+abbrev pub LineGoes : {D : Type 0} {g : _} → Meaning D → ℕ → Chained → Line → Chain D g → Chain D g → List Event
+    → Outcome → Type 0
+LineGoes m first c line s t printed outcomes.Applied = (d : Chained) × ChainLeads c line d printed × ChainStands m t d
+LineGoes m first c line s t printed outcomes.Refused = ChainRefuses c line × (printed ≡ []) × ChainStands m t c
+LineGoes m first c line s t printed (outcomes.Stopped fault) = (d : Chained) × ChainStops first c line d printed fault
+    × ChainStandsOrFails m t d
     × (first ≡ c.first.row.id → NamesWhatFailed (FailsIn m c.first.row.id c.second.row.id s t) fault)
-TurnGoes m first c line s t printed outcomes.Unwritten = ⊥
+LineGoes m first c line s t printed outcomes.Unwritten = ⊥
 
--- so, and what it prints was written, or a front of it was
-abbrev pub TurnDoes : {D : Type 0} {g : _} → Meaning D → ℕ → Chained → Line → Chain D g → Chain D g → Option (List ℕ) → Option (List ℕ) → Outcome → Type 0
-TurnDoes m first c line s t old new outcomes.Unwritten =
-    (printed : List Event) × (outcome : Outcome) × TurnGoes m first c line s t printed outcome × AppendsFront old new (text printed)
-TurnDoes m first c line s t old new outcome = (printed : List Event) × TurnGoes m first c line s t printed outcome × Appends old new (text printed)
+-- so, and what it prints was added to what is held; or a prefix of what was held and of what it prints was written
+abbrev pub LineDoes : {D : Type 0} {g : _} → Meaning D → ℕ → Chained → Line → Chain D g → Chain D g → (held later : List ℕ)
+    → (old new : Option (List ℕ)) → Outcome → Type 0
+LineDoes m first c line s t held later old new outcomes.Unwritten =
+    (printed : List Event) × (outcome : Outcome) × LineGoes m first c line s t printed outcome
+    × AppendsPrefix old new (held ++ text printed)
+LineDoes m first c line s t held later old new outcome = (printed : List Event)
+    × LineGoes m first c line s t printed outcome × Gathers held later old new (text printed)
 
 -- ---- while the chain runs ----
 
@@ -182,14 +198,17 @@ abbrev pub IsSoundTimed : Running → List Event → Type 0
 IsSoundTimed s printed = IsTimed (Some (Whole s)) × Sound (Some (Whole s)) printed
 
 abbrev pub AreSoundTimed : Chained → List Event → Type 0
-AreSoundTimed c printed = IsSoundTimed c.first (events_of c.first.row.id printed) × IsSoundTimed c.second (events_of c.second.row.id printed)
+AreSoundTimed c printed = IsSoundTimed c.first (events_of c.first.row.id printed)
+    × IsSoundTimed c.second (events_of c.second.row.id printed)
 
 -- the chain of these rows has come to this from its start, also where a disk failed in its last line
-abbrev pub lent : {D : Type 0} {g : _} → Meaning D → Chain D g → Chain D g → Openings → SessionRow → SessionRow → Shelved
+abbrev pub lent : {D : Type 0} {g : _} → Meaning D → Chain D g → Chain D g → Openings → SessionRow → SessionRow
+    → Shelved
 lent m start chain o one two = record {
   waits = ⊥;
   keeps = λ p row other c. (p ≡ o) × (row ≡ one) × (other ≡ two) × ChainStandsOrFails m chain c × AreOf one two c;
-  outlives = λ row other c printed. (row ≡ one) × (other ≡ two) × ChainStandsOrFails m chain c × AreOf one two c × AreSoundTimed c printed;
+  outlives = λ row other c printed. (row ≡ one) × (other ≡ two) × ChainStandsOrFails m chain c × AreOf one two c
+      × AreSoundTimed c printed;
   readies = λ row other. ⊥;
   refuses = λ row other fault. ⊥;
   fails = FailsIn m one.id two.id start chain;

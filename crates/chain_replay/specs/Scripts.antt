@@ -22,14 +22,14 @@ pub record MayFollow (one two : SessionRow) : Type 0 where
   pub apart : one.id ≡ two.id → ⊥
   pub message : one.message ≤ two.message
 
--- both can begin on what their disks were found to hold, and the second pump has accepted none but the first messages that
--- the first receiver has
+-- both can begin on what their disks were found to hold, and the second pump has accepted none but the first messages
+-- that the first receiver has
 pub record AreLinked (o : Openings) (one two : SessionRow) : Type 0 where
   pub can : CanChain o one two
-  pub front : IsPrefixOf (accepted_in (o two.id)) (o one.id).received
+  pub prefix : IsPrefixOf (accepted_in (o two.id)) (o one.id).received
 
--- the line can be applied, leads on, and prints this. The first two that are not skipped begin the pumps, and all others
--- are the chain's
+-- the line can be applied, leads on, and prints this. The first two that are not skipped begin the pumps, and all
+-- others are the chain's
 abbrev pub Leads : Openings → Begun → Line → Begun → List Event → Type 0
 Leads o NoPump Skip after printed = (after ≡ NoPump) × (printed ≡ [])
 Leads o NoPump (Session one) after printed = IsLawfulRow one × (after ≡ OnePump one) × (printed ≡ [])
@@ -38,7 +38,8 @@ Leads o (OnePump one) Skip after printed = (after ≡ OnePump one) × (printed �
 Leads o (OnePump one) (Session two) after printed =
     MayFollow one two × AreLinked o one two × (after ≡ BothPumps one two (chain_of o one two)) × (printed ≡ [])
 Leads o (OnePump one) line after printed = ⊥
-Leads o (BothPumps one two c) line after printed = (d : Chained) × ChainLeads c line d printed × (after ≡ BothPumps one two d)
+Leads o (BothPumps one two c) line after printed = (d : Chained) × ChainLeads c line d printed
+    × (after ≡ BothPumps one two d)
 
 -- the line can't be applied
 abbrev pub Refuses : Begun → Line → Type 0

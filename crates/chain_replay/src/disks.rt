@@ -15,7 +15,8 @@ use script_replay::{NotTaken, put_disks_back, take_disks};
 
 // The fault of a disk that can't be taken; `None` where memory was wanting.
 fn untaken(session: u32, not_taken: NotTaken) -> Option<Fault>
-    ensures of { IsUntakenAt (λ id role. (not_taken.fault ≡ ShelfFault.Failed) × (role ≡ not_taken.role)) session result }
+    ensures of { IsUntakenAt (λ id role. (not_taken.fault ≡ ShelfFault.Failed)
+        × (role ≡ not_taken.role)) session result }
     ensures failed { (fault : _) → result ≡ Some fault → not_taken.fault ≡ ShelfFault.Failed }
 {
     match not_taken.fault {
@@ -31,10 +32,12 @@ fn take_trio<S: Shelf>(shelf: &mut S, session: u32) -> Result<Trio<S::Disk>, Opt
     ensures read { IfOk result (λ t. S.told.tells → AreReadAt S.Disk.told (S.told.disk shelf.old) session t) }
     ensures out { IfOk result (λ t. AreOutAt S.Disk.told (S.told.disk shelf.new) session t) }
     ensures others { LeavesOtherSessions (S.told.disk shelf.old) (S.told.disk shelf.new) session }
-    ensures alike { IfErr result (λ e. S.told.tells → ReadsAlike (S.told.disk shelf.old) (S.told.disk shelf.new) × AllAreBack (S.told.disk shelf.old) (S.told.disk shelf.new)) }
+    ensures alike { IfErr result (λ e. S.told.tells → ReadsAlike (S.told.disk shelf.old) (S.told.disk shelf.new)
+        × AllAreBack (S.told.disk shelf.old) (S.told.disk shelf.new)) }
     ensures of { IfErr result (λ e. IsUntakenAt (IsNotGiven S.told (S.told.disk shelf.old)) session e) }
     ensures later { S.told.disk_faults shelf.old ≤ S.told.disk_faults shelf.new }
-    ensures cause { IfErr result (λ e. (fault : _) → e ≡ Some fault → Rose (S.told.disk_faults shelf.old) (S.told.disk_faults shelf.new)) }
+    ensures cause { IfErr result (λ e. (fault : _) → e ≡ Some fault
+        → Rose (S.told.disk_faults shelf.old) (S.told.disk_faults shelf.new)) }
 {
     match take_disks(shelf, session) {
         Ok(disks) => Ok(Trio {
@@ -49,7 +52,8 @@ fn take_trio<S: Shelf>(shelf: &mut S, session: u32) -> Result<Trio<S::Disk>, Opt
 fn put_trio_back<S: Shelf>(shelf: &mut S, session: u32, disks: Trio<S::Disk>)
     requires { AreOut (S.told.disk shelf.old) session }
     ensures back { S.told.tells → AreBackAt S.Disk.told (S.told.disk shelf.new) session disks }
-    ensures rises { AllRiseAt S.Disk.told (S.told.disk shelf.old) session disks (S.told.disk_faults shelf.old) (S.told.disk_faults shelf.new) }
+    ensures rises { AllRiseAt S.Disk.told (S.told.disk shelf.old) session disks (S.told.disk_faults shelf.old)
+        (S.told.disk_faults shelf.new) }
     ensures others { LeavesOtherSessions (S.told.disk shelf.old) (S.told.disk shelf.new) session }
     ensures later { S.told.disk_faults shelf.old ≤ S.told.disk_faults shelf.new }
 {
@@ -60,15 +64,19 @@ fn put_trio_back<S: Shelf>(shelf: &mut S, session: u32, disks: Trio<S::Disk>)
 /// before it are put back.
 pub fn take_six<S: Shelf>(shelf: &mut S, one: u32, two: u32) -> Result<Six<S::Disk>, Option<Fault>>
     requires { one ≡ two → ⊥ }
-    ensures first_read { IfOk result (λ six. S.told.tells → AreReadAt S.Disk.told (S.told.disk shelf.old) one six.first) }
-    ensures second_read { IfOk result (λ six. S.told.tells → AreReadAt S.Disk.told (S.told.disk shelf.old) two six.second) }
+    ensures first_read { IfOk result (λ six. S.told.tells
+        → AreReadAt S.Disk.told (S.told.disk shelf.old) one six.first) }
+    ensures second_read { IfOk result (λ six. S.told.tells
+        → AreReadAt S.Disk.told (S.told.disk shelf.old) two six.second) }
     ensures first_out { IfOk result (λ six. AreOutAt S.Disk.told (S.told.disk shelf.new) one six.first) }
     ensures second_out { IfOk result (λ six. AreOutAt S.Disk.told (S.told.disk shelf.new) two six.second) }
     ensures others { LeavesOthers (S.told.disk shelf.old) (S.told.disk shelf.new) one two }
-    ensures alike { IfErr result (λ e. S.told.tells → ReadsAlike (S.told.disk shelf.old) (S.told.disk shelf.new) × AllAreBack (S.told.disk shelf.old) (S.told.disk shelf.new)) }
+    ensures alike { IfErr result (λ e. S.told.tells → ReadsAlike (S.told.disk shelf.old) (S.told.disk shelf.new)
+        × AllAreBack (S.told.disk shelf.old) (S.told.disk shelf.new)) }
     ensures of { IfErr result (λ e. IsUntaken (IsNotGiven S.told (S.told.disk shelf.old)) one two e) }
     ensures later { S.told.disk_faults shelf.old ≤ S.told.disk_faults shelf.new }
-    ensures cause { IfErr result (λ e. (fault : _) → e ≡ Some fault → Rose (S.told.disk_faults shelf.old) (S.told.disk_faults shelf.new)) }
+    ensures cause { IfErr result (λ e. (fault : _) → e ≡ Some fault
+        → Rose (S.told.disk_faults shelf.old) (S.told.disk_faults shelf.new)) }
 {
     let first = match take_trio(shelf, one) {
         Ok(first) => first,
@@ -90,8 +98,10 @@ pub fn put_six_back<S: Shelf>(shelf: &mut S, one: u32, two: u32, disks: Six<S::D
     requires second { AreOut (S.told.disk shelf.old) two }
     ensures first { S.told.tells → AreBackAt S.Disk.told (S.told.disk shelf.new) one disks.first }
     ensures second { S.told.tells → AreBackAt S.Disk.told (S.told.disk shelf.new) two disks.second }
-    ensures first_rises { AllRiseAt S.Disk.told (S.told.disk shelf.old) one disks.first (S.told.disk_faults shelf.old) (S.told.disk_faults shelf.new) }
-    ensures second_rises { AllRiseAt S.Disk.told (S.told.disk shelf.old) two disks.second (S.told.disk_faults shelf.old) (S.told.disk_faults shelf.new) }
+    ensures first_rises { AllRiseAt S.Disk.told (S.told.disk shelf.old) one disks.first (S.told.disk_faults shelf.old)
+        (S.told.disk_faults shelf.new) }
+    ensures second_rises { AllRiseAt S.Disk.told (S.told.disk shelf.old) two disks.second (S.told.disk_faults shelf.old)
+        (S.told.disk_faults shelf.new) }
     ensures others { LeavesOthers (S.told.disk shelf.old) (S.told.disk shelf.new) one two }
     ensures later { S.told.disk_faults shelf.old ≤ S.told.disk_faults shelf.new }
 {

@@ -2,12 +2,12 @@
 //! sessions that it begins, writes the transcript, and answers how it ended.
 #![tactic(auto)]
 
+mod applying;
 mod disks;
 mod opening;
 mod printing;
 mod replaying;
 mod rows;
 mod running;
-mod turn;
 
 pub use replaying::replay_chain;

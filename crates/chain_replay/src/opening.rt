@@ -83,17 +83,23 @@ pub fn open<S: Shelf>(
 ) -> Result<Chain<S::Disk>, Option<Fault>>
     requires one { IsLawfulRow one.now }
     requires two { MayFollow one.now two.now }
-    ensures joins { IfOk result (λ chain. S.told.tells → S.Disk.told.tells → Joins S.Disk.told (S.told.disk shelf.old) one.now two.now chain) }
-    ensures first_out { IfOk result (λ chain. AreOutAt S.Disk.told (S.told.disk shelf.new) one.now.id (trio_of chain.first)) }
-    ensures second_out { IfOk result (λ chain. AreOutAt S.Disk.told (S.told.disk shelf.new) two.now.id (trio_of chain.second)) }
+    ensures joins { IfOk result (λ chain. S.told.tells → S.Disk.told.tells
+        → Joins S.Disk.told (S.told.disk shelf.old) one.now two.now chain) }
+    ensures first_out { IfOk result (λ chain. AreOutAt S.Disk.told (S.told.disk shelf.new) one.now.id
+        (trio_of chain.first)) }
+    ensures second_out { IfOk result (λ chain. AreOutAt S.Disk.told (S.told.disk shelf.new) two.now.id
+        (trio_of chain.second)) }
     ensures up { IfOk result (λ chain. chain_is_down chain ≡ false) }
     ensures others { LeavesOthers (S.told.disk shelf.old) (S.told.disk shelf.new) one.now.id two.now.id }
     ensures back { IfErr result (λ e. S.told.tells → AllAreBack (S.told.disk shelf.old) (S.told.disk shelf.new)) }
     ensures not { IfErr result (λ e. S.told.tells → S.Disk.told.tells → (fault : _) → e ≡ Some fault
-        → NotChained (S.told.disk shelf.old) (S.told.disk shelf.new) (FailsAt S.told S.Disk.told shelf.old shelf.new) one.now two.now fault) }
-    ensures readies { IfErr result (λ e. S.told.tells → S.Disk.told.tells → e ≡ None → AreReadied (S.told.disk shelf.old) (S.told.disk shelf.new) one.now two.now) }
+        → NotChained (S.told.disk shelf.old) (S.told.disk shelf.new) (FailsAt S.told S.Disk.told shelf.old shelf.new)
+        one.now two.now fault) }
+    ensures readies { IfErr result (λ e. S.told.tells → S.Disk.told.tells → e ≡ None
+        → AreReadied (S.told.disk shelf.old) (S.told.disk shelf.new) one.now two.now) }
     ensures line { IfErr result (λ e. IsOfLine e) }
-    ensures device { IfErr result (λ e. (fault : _) → e ≡ Some fault → IsDevice fault → Rose (S.told.disk_faults shelf.old) (S.told.disk_faults shelf.new)) }
+    ensures device { IfErr result (λ e. (fault : _) → e ≡ Some fault → IsDevice fault
+        → Rose (S.told.disk_faults shelf.old) (S.told.disk_faults shelf.new)) }
     ensures later { S.told.disk_faults shelf.old ≤ S.told.disk_faults shelf.new }
 {
     let disks = match take_six(shelf, one.id, two.id) {

@@ -34,8 +34,10 @@ fn leave<S: Shelf>(chain: Chain<S::Disk>, one: u32, two: u32, shelf: &mut S)
         → AreLeftAt (S.told.disk shelf.new) one c.first × AreLeftAt (S.told.disk shelf.new) two c.second }
     ensures first_back { S.told.tells → AreBackAt S.Disk.told (S.told.disk shelf.new) one (trio_of chain.first) }
     ensures second_back { S.told.tells → AreBackAt S.Disk.told (S.told.disk shelf.new) two (trio_of chain.second) }
-    ensures first_rises { AllRiseAt S.Disk.told (S.told.disk shelf.old) one (trio_of chain.first) (S.told.disk_faults shelf.old) (S.told.disk_faults shelf.new) }
-    ensures second_rises { AllRiseAt S.Disk.told (S.told.disk shelf.old) two (trio_of chain.second) (S.told.disk_faults shelf.old) (S.told.disk_faults shelf.new) }
+    ensures first_rises { AllRiseAt S.Disk.told (S.told.disk shelf.old) one (trio_of chain.first)
+        (S.told.disk_faults shelf.old) (S.told.disk_faults shelf.new) }
+    ensures second_rises { AllRiseAt S.Disk.told (S.told.disk shelf.old) two (trio_of chain.second)
+        (S.told.disk_faults shelf.old) (S.told.disk_faults shelf.new) }
     ensures home { S.told.tells → AreHome (S.told.disk shelf.new) one × AreHome (S.told.disk shelf.new) two }
     ensures others { LeavesOthers (S.told.disk shelf.old) (S.told.disk shelf.new) one two }
     ensures later { S.told.disk_faults shelf.old ≤ S.told.disk_faults shelf.new }
@@ -63,13 +65,16 @@ pub fn replay_chain<S: Shelf, I: Source, O: Sink>(
     script: &mut I,
     out: &mut O,
 ) -> Ended
-    ensures ends { S.told.tells → S.Disk.told.tells → EndsChain (shelved (S.told.disk shelf.old) (S.told.disk shelf.new) (FailsAt S.told S.Disk.told shelf.old shelf.new)) (I.left script.old) (I.left script.new)
+    ensures ends { S.told.tells → S.Disk.told.tells
+        → EndsChain (shelved (S.told.disk shelf.old) (S.told.disk shelf.new) (FailsAt S.told S.Disk.told shelf.old
+        shelf.new)) (I.left script.old) (I.left script.new)
         (O.written out.old) (O.written out.new) (I.faults script.old) (I.faults script.new) result }
     ensures memory { result ≡ Ended.Memory → Appends (O.written out.old) (O.written out.new) [] }
     ensures words { result ≡ Ended.Stopped Fault.Words → ⊥ }
     ensures back { S.told.tells → AllAreBack (S.told.disk shelf.old) (S.told.disk shelf.new) }
     // A disk, a read and a write fail only where the count of the shelf, the source or the sink rose.
-    ensures device { (session : ℕ) (role : Role) → result ≡ Ended.Stopped (Fault.Device session role) → Rose (S.told.disk_faults shelf.old) (S.told.disk_faults shelf.new) }
+    ensures device { (session : ℕ) (role : Role) → result ≡ Ended.Stopped (Fault.Device session role)
+        → Rose (S.told.disk_faults shelf.old) (S.told.disk_faults shelf.new) }
     ensures read { result ≡ Ended.Stopped Fault.Read → Rose (I.faults script.old) (I.faults script.new) }
     ensures write { result ≡ Ended.Write → Rose (O.faults out.old) (O.faults out.new) }
 {

@@ -1,6 +1,6 @@
 //! The two `session` lines with which a script begins.
 
-ghost use Rattle.std.specs.Prelude.{◌≡◌, ◌^◌, ◌<◌, ◌≤◌, ℕ, List, [], Option, IfOk, IfErr, true, false};
+ghost use Rattle.std.specs.Prelude.{◌≡◌, ◌^◌, ◌<◌, ◌≤◌, ℕ, List, [], length, Option, IfOk, OnOk, IfErr, true, false};
 ghost use Rattle.chain_replay.specs.Private.{IsOpens, HasRead, ReadsRow, ReadsNoFurther};
 ghost use Rattle.chain_replay.specs.Scripts.{Begun, OnePump, MayFollow, LacksPump};
 ghost use Rattle.pump_frame.specs.Rows.{IsLawfulRow};
@@ -51,6 +51,7 @@ fn next_row<I: Source>(
         → HasRead o all (to_come lines.old (I.left script.old)) lines.old.number begun []
         → ReadsNoFurther o all (I.left script.new) (I.faults script.old) (I.faults script.new) begun fault) }
     ensures number { lines.new.number < 2 ^ 32 }
+    ensures held { OnOk result (length lines.new.held ≤ 4096) }
     ensures later { I.faults script.old ≤ I.faults script.new }
 {
     'turns: loop {
@@ -90,12 +91,15 @@ pub fn read_rows<I: Source>(
     script: &mut I,
 ) -> Result<(SessionRow, SessionRow), Fault>
     requires fresh { lines.old ≡ record { held = []; number = 0 } }
-    ensures rows { IfOk result (λ rows. (o : Openings) → ReadsRow o (I.left script.old) (I.left script.new) lines.new (OnePump rows.0) rows.1) }
+    ensures rows { IfOk result (λ rows. (o : Openings)
+        → ReadsRow o (I.left script.old) (I.left script.new) lines.new (OnePump rows.0) rows.1) }
     ensures lawful { IfOk result (λ rows. IsLawfulRow rows.0) }
     ensures follows { IfOk result (λ rows. MayFollow rows.0 rows.1) }
     ensures halted { IfErr result (λ fault. (o : Openings) → (begun : Begun) × LacksPump begun
-        × ReadsNoFurther o (I.left script.old) (I.left script.new) (I.faults script.old) (I.faults script.new) begun fault) }
+        × ReadsNoFurther o (I.left script.old) (I.left script.new) (I.faults script.old) (I.faults script.new) begun
+        fault) }
     ensures number { lines.new.number < 2 ^ 32 }
+    ensures held { OnOk result (length lines.new.held ≤ 4096) }
     ensures later { I.faults script.old ≤ I.faults script.new }
 {
     let one = match next_row(lines, body, script) {

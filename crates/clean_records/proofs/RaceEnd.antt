@@ -33,13 +33,13 @@ use Rattle.clean_records.proofs.Told.{all_told, record_told, pairs_back, back_ri
 digits_has : (n : ℕ) → n < 2 ^ 64 → line_ends (decimal n) ≡ 0
 digits_has n fits = none_within (decimal n) (digits_without 10 n fits (λ h. absurd (omega (arith, h.0))))
 
-number_is_text : (front : List ℕ) (n : ℕ) → line_ends front ≡ 0 → length front ≤ 60 → n < 2 ^ 64 → IsText (front ++ decimal n)
-number_is_text front n free short fits =
-    let a = ends_append front (decimal n) in
+number_is_text : (prefix : List ℕ) (n : ℕ) → line_ends prefix ≡ 0 → length prefix ≤ 60 → n < 2 ^ 64 → IsText (prefix ++ decimal n)
+number_is_text prefix n free short fits =
+    let a = ends_append prefix (decimal n) in
     let b = digits_has n fits in
-    let c = length-append front (decimal n) in
+    let c = length-append prefix (decimal n) in
     let d = short_decimal n fits in
-    record { unended = unended (front ++ decimal n) (omega (arith, a, b, free)); short = omega (arith, c, d, short) }
+    record { unended = unended (prefix ++ decimal n) (omega (arith, a, b, free)); short = omega (arith, c, d, short) }
 
 pub time_is_text : (n : ℕ) → n < 2 ^ 64 → IsText (comment_text (codes "time" ∷ decimal n ∷ []))
 time_is_text n fits = number_is_text (codes "# time ") n refl (omega arith) fits

@@ -20,7 +20,8 @@ use pump_link::Door;
 /// taken is lawful, each average that a coarse session is told is a level, the counts that are told never
 /// fall, and it has few enough lines.
 pub fn records_are_clean()
-    ensures { (row : SessionRow) (o : Opening) (made : List Made) → IsLawfulRow row → AreMade row o made → AreReadable row o made
+    ensures { (row : SessionRow) (o : Opening) (made : List Made) → IsLawfulRow row → AreMade row o made
+        → AreReadable row o made
         → TellLevels row made → TakeLawful made → NeverFall (pairs_of made) → HasFewLines (record_text row o made)
         → IsCleanRecord (record_text row o made) }
 {}
@@ -30,7 +31,8 @@ pub fn records_are_clean()
 /// counts that are told never fall. It has at most two lines for each round and two at its head, so of fewer
 /// than 2^31 - 1 rounds it has few enough lines.
 pub fn served_records_are_clean<P: Door>()
-    ensures clean { (row : SessionRow) (o : Opening) (stays : List (Stay P.Link)) → IsLawfulRow row → AreStays row o [] stays
+    ensures clean { (row : SessionRow) (o : Opening) (stays : List (Stay P.Link)) → IsLawfulRow row
+        → AreStays row o [] stays
         → AreMade row o (stayed [] stays) → AreReadable row o (stayed [] stays) → TellLevels row (stayed [] stays)
         → NeverFall (pairs_of (stayed [] stays)) → HasFewLines (record_text row o (stayed [] stays))
         → IsCleanRecord (record_text row o (stayed [] stays)) }

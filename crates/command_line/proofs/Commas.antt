@@ -16,13 +16,13 @@ HasNoComma text = (i : ℕ) → i < length text → get_or text i 0 ≡ 44 → �
 pub decimal_has_none : (n : ℕ) → n ≤ 10 ^ 9 → HasNoComma (decimal n)
 decimal_has_none n h i low e = not_in_digits own (decimal n) 44 (digits_decimal own n (omega (arith, h))) (λ r. omega (arith, r)) i low e
 
--- the byte behind a front
-pub at_front : (front rest : List ℕ) (b : ℕ) → get_or (front ++ b ∷ rest) (length front) 0 ≡ b
-at_front [] rest b = refl
-at_front (x ∷ front) rest b = at_front front rest b
+-- the byte behind a prefix
+pub at_prefix : (prefix rest : List ℕ) (b : ℕ) → get_or (prefix ++ b ∷ rest) (length prefix) 0 ≡ b
+at_prefix [] rest b = refl
+at_prefix (x ∷ prefix) rest b = at_prefix prefix rest b
 
-has_comma : (front rest : List ℕ) → HasNoComma (front ++ 44 ∷ rest) → ⊥
-has_comma front rest none = none (length front) (omega (arith, length-append front (44 ∷ rest))) (at_front front rest 44)
+has_comma : (prefix rest : List ℕ) → HasNoComma (prefix ++ 44 ∷ rest) → ⊥
+has_comma prefix rest none = none (length prefix) (omega (arith, length-append prefix (44 ∷ rest))) (at_prefix prefix rest 44)
 
 -- times with a comma behind each
 abbrev with_commas : List ℕ → List ℕ
@@ -49,7 +49,7 @@ short_at : (times later : List ℕ) (t : ℕ) → AreShort (times ++ t ∷ later
 short_at [] later t h = h.0
 short_at (u ∷ times) later t h = short_at times later t h.1
 
--- the front of the word is these times, each with its comma; and whatever times the word is, they begin with these
+-- the prefix of the word is these times, each with its comma; and whatever times the word is, they begin with these
 pub record HasRead (word times rest : List ℕ) : Type 0 where
   pub few : length times ≤ 16
   pub short : AreShort times

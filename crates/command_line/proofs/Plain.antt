@@ -33,10 +33,10 @@ pub plain_table : (name : List ℕ) → is_table_name name ≡ true → IsPlainW
 plain_table [] h = grind arith
 plain_table (x ∷ xs) h = record { first = x; rest = xs; whole = refl; undashed = grind (arith, nat_tests) }
 
-plain_front : (front rest : List ℕ) → IsPlainWord front → IsPlainWord (front ++ rest)
-plain_front front rest p = record { first = p.first; rest = p.rest ++ rest; whole = ap (λ w. w ++ rest) p.whole; undashed = p.undashed }
+plain_prefix : (prefix rest : List ℕ) → IsPlainWord prefix → IsPlainWord (prefix ++ rest)
+plain_prefix prefix rest p = record { first = p.first; rest = p.rest ++ rest; whole = ap (λ w. w ++ rest) p.whole; undashed = p.undashed }
 
 pub plain_times : (times : List ℕ) → AreTimes times → IsPlainWord (times_word times)
 plain_times [] h = absurd (omega (arith, h.0))
 plain_times (t ∷ []) h = plain_decimal t (omega (arith, h.2.0))
-plain_times (t ∷ u ∷ times) h = plain_front (decimal t) (44 ∷ times_word (u ∷ times)) (plain_decimal t (omega (arith, h.2.0)))
+plain_times (t ∷ u ∷ times) h = plain_prefix (decimal t) (44 ∷ times_word (u ∷ times)) (plain_decimal t (omega (arith, h.2.0)))

@@ -3,7 +3,9 @@ use Rattle.std.specs.Prelude.{◌≡◌, ℕ, ◌≤◌, ◌<◌, ◌^◌, true,
 use Rattle.command_line.specs.TableNames.{is_table_name}
 use Rattle.command_line.specs.TimeLists.{AreTimes, times_word}
 use Rattle.command_line.specs.declared.command.Command.{Command}
-use Rattle.command_line.specs.declared.command.Command.TheVariants.{Replay, Format, Show, Exercise, Race, Serve, Receive, Send, Append, Migrate, Wrap, Unwrap, Messages, Status, Audit, Compare, Chain}
+use Rattle.command_line.specs.declared.command.Command.TheVariants.{Replay, Format, Show, Exercise, Race, Serve}
+use Rattle.command_line.specs.declared.command.Command.TheVariants.{Receive, Send, Append, Migrate, Wrap, Unwrap}
+use Rattle.command_line.specs.declared.command.Command.TheVariants.{Messages, Status, Audit, Compare, Chain}
 
 -- a session of a table
 abbrev pub IsSession : List ℕ → ℕ → Type 0
@@ -44,7 +46,8 @@ words_of (Serve table session looks) = codes "serve" ∷ table ∷ decimal sessi
 words_of (Receive table session looks) = codes "receive" ∷ table ∷ decimal session ∷ decimal looks ∷ []
 words_of (Send table session looks) = codes "send" ∷ table ∷ decimal session ∷ decimal looks ∷ []
 words_of (Append table session looks) = codes "append" ∷ table ∷ decimal session ∷ decimal looks ∷ []
-words_of (Migrate table session new_table new_session) = codes "migrate" ∷ table ∷ decimal session ∷ new_table ∷ decimal new_session ∷ []
+words_of (Migrate table session new_table new_session) = codes "migrate" ∷ table ∷ decimal session ∷ new_table ∷ decimal
+    new_session ∷ []
 words_of (Wrap table session) = codes "wrap" ∷ table ∷ decimal session ∷ []
 words_of (Unwrap table session) = codes "unwrap" ∷ table ∷ decimal session ∷ []
 words_of (Messages table session from) = codes "messages" ∷ table ∷ decimal session ∷ decimal from ∷ []

@@ -5,37 +5,46 @@ use Rattle.clap.specs.Simple.{subcommand_rows_of}
 use Rattle.clap.specs.declared.parser.matches.ArgMatches.{ArgMatches}
 use Rattle.command_line.specs.TimeLists.{times_word}
 use Rattle.command_line.specs.declared.command.Command.{Command}
-use Rattle.command_line.specs.declared.command.Command.TheVariants.{Replay, Format, Show, Exercise, Race, Serve, Receive, Send, Append, Migrate, Wrap, Unwrap, Messages, Status, Audit, Compare, Chain}
+use Rattle.command_line.specs.declared.command.Command.TheVariants.{Replay, Format, Show, Exercise, Race, Serve}
+use Rattle.command_line.specs.declared.command.Command.TheVariants.{Receive, Send, Append, Migrate, Wrap, Unwrap}
+use Rattle.command_line.specs.declared.command.Command.TheVariants.{Messages, Status, Audit, Compare, Chain}
 
 -- the values that were found are this session of the table
 abbrev pub GivesSession : List ℕ → ℕ → List Row → Type 0
-GivesSession table session rows = (first_of (codes "TABLE") rows ≡ Some table) × (first_of (codes "S") rows ≡ Some (decimal session))
+GivesSession table session rows = (first_of (codes "TABLE") rows ≡ Some table)
+    × (first_of (codes "S") rows ≡ Some (decimal session))
 
 -- .. this session of the new table
 abbrev pub GivesNewSession : List ℕ → ℕ → List Row → Type 0
-GivesNewSession table session rows = (first_of (codes "NEWTABLE") rows ≡ Some table) × (first_of (codes "T") rows ≡ Some (decimal session))
+GivesNewSession table session rows = (first_of (codes "NEWTABLE") rows ≡ Some table)
+    × (first_of (codes "T") rows ≡ Some (decimal session))
 
 -- .. this session of the table and this number of looks
 abbrev pub GivesLooks : List ℕ → ℕ → ℕ → List Row → Type 0
-GivesLooks table session looks rows = (first_of (codes "TABLE") rows ≡ Some table) × (first_of (codes "S") rows ≡ Some (decimal session)) × (first_of (codes "LOOKS") rows ≡ Some (decimal looks))
+GivesLooks table session looks rows = (first_of (codes "TABLE") rows ≡ Some table)
+    × (first_of (codes "S") rows ≡ Some (decimal session)) × (first_of (codes "LOOKS") rows ≡ Some (decimal looks))
 
 -- .. this session of the table and this number of a message
 abbrev pub GivesFrom : List ℕ → ℕ → ℕ → List Row → Type 0
-GivesFrom table session from rows = (first_of (codes "TABLE") rows ≡ Some table) × (first_of (codes "S") rows ≡ Some (decimal session)) × (first_of (codes "FROM") rows ≡ Some (decimal from))
+GivesFrom table session from rows = (first_of (codes "TABLE") rows ≡ Some table)
+    × (first_of (codes "S") rows ≡ Some (decimal session)) × (first_of (codes "FROM") rows ≡ Some (decimal from))
 
 -- the name and the values that were found are those of this command
 abbrev pub Gives : Command → List ℕ → List Row → Type 0
 Gives Replay name rows = name ≡ codes "replay"
 Gives (Format table session) name rows = (name ≡ codes "format") × GivesSession table session rows
 Gives (Show table session) name rows = (name ≡ codes "show") × GivesSession table session rows
-Gives (Exercise seed count) name rows = (name ≡ codes "exercise") × (first_of (codes "SEED") rows ≡ Some (decimal seed)) × (first_of (codes "COUNT") rows ≡ Some (decimal count))
-Gives (Race seed count times) name rows = (name ≡ codes "race") × (first_of (codes "SEED") rows ≡ Some (decimal seed)) × (first_of (codes "COUNT") rows ≡ Some (decimal count))
+Gives (Exercise seed count) name rows = (name ≡ codes "exercise") × (first_of (codes "SEED") rows ≡ Some (decimal seed))
+    × (first_of (codes "COUNT") rows ≡ Some (decimal count))
+Gives (Race seed count times) name rows = (name ≡ codes "race") × (first_of (codes "SEED") rows ≡ Some (decimal seed))
+    × (first_of (codes "COUNT") rows ≡ Some (decimal count))
     × (first_of (codes "TIMES") rows ≡ Some (times_word times.items))
 Gives (Serve table session looks) name rows = (name ≡ codes "serve") × GivesLooks table session looks rows
 Gives (Receive table session looks) name rows = (name ≡ codes "receive") × GivesLooks table session looks rows
 Gives (Send table session looks) name rows = (name ≡ codes "send") × GivesLooks table session looks rows
 Gives (Append table session looks) name rows = (name ≡ codes "append") × GivesLooks table session looks rows
-Gives (Migrate table session new_table new_session) name rows = (name ≡ codes "migrate") × GivesSession table session rows × GivesNewSession new_table new_session rows
+Gives (Migrate table session new_table new_session) name rows = (name ≡ codes "migrate")
+    × GivesSession table session rows × GivesNewSession new_table new_session rows
 Gives (Wrap table session) name rows = (name ≡ codes "wrap") × GivesSession table session rows
 Gives (Unwrap table session) name rows = (name ≡ codes "unwrap") × GivesSession table session rows
 Gives (Messages table session from) name rows = (name ≡ codes "messages") × GivesFrom table session from rows

@@ -33,7 +33,8 @@ with_command above command = with_subcommand above (leaf command.0.now command.1
 
 -- the program without its commands
 abbrev pub bare : App
-bare = let a = new_app (codes "netpump") in record a { top = record a.top { no_binary_name = true; disable_help_flag = true; disable_help_subcommand = true } }
+bare = let a = new_app (codes "netpump") in record a
+    { top = record a.top { no_binary_name = true; disable_help_flag = true; disable_help_subcommand = true } }
 
 -- with the commands over scripts and generated messages, and those that make and show disks
 abbrev pub with_scripts : App → App
@@ -58,7 +59,8 @@ with_relays above =
 -- with the commands over files, what a receiver has, records and chains
 abbrev pub with_files : App → App
 with_files above =
-    with_subcommand (with_subcommand (with_subcommand (with_subcommand (with_subcommand (with_subcommand (with_subcommand above
+    with_subcommand (with_subcommand
+    (with_subcommand (with_subcommand (with_subcommand (with_subcommand (with_subcommand above
     (leaf_two (codes "wrap") (codes "TABLE") (codes "S")).top)
     (leaf_two (codes "unwrap") (codes "TABLE") (codes "S")).top)
     (leaf_three (codes "messages") (codes "TABLE") (codes "S") (codes "FROM")).top)

@@ -15,7 +15,8 @@ use std::alloc::Global;
 // clap may take more than a command's words, so the words are compared with those of what it found.
 fn found_in(matches: &ArgMatches, words: &[String]) -> Result<Command, WordsFault>
     ensures found { IfOk result (λ c. AreWordsOf (map string_bytes words.now) c) }
-    ensures refused { result ≡ Err WordsFault.NoCommand → (c : Commands) → AreWordsOf (map string_bytes words.now) c → Finds c matches.now → ⊥ }
+    ensures refused { result ≡ Err WordsFault.NoCommand → (c : Commands) → AreWordsOf (map string_bytes words.now) c
+        → Finds c matches.now → ⊥ }
     ensures free { result ≡ Err WordsFault.Memory → ⊥ }
 {
     let Some((name, values)) = matches.subcommand() else {
@@ -33,7 +34,8 @@ fn found_in(matches: &ArgMatches, words: &[String]) -> Result<Command, WordsFaul
 
 fn found(alloc: Global, words: &[String]) -> Result<Command, WordsFault>
     ensures found { IfOk result (λ c. AreWordsOf (map string_bytes words.now) c) }
-    ensures refused { result ≡ Err WordsFault.NoCommand → (c : Commands) → AreWordsOf (map string_bytes words.now) c → ⊥ }
+    ensures refused { result ≡ Err WordsFault.NoCommand → (c : Commands) → AreWordsOf (map string_bytes words.now) c
+        → ⊥ }
 {
     let Ok(program) = program(alloc) else {
         return Err(WordsFault::Memory);
@@ -52,7 +54,8 @@ fn found(alloc: Global, words: &[String]) -> Result<Command, WordsFault>
 /// spelled so. `Memory` may come at any words.
 pub fn command_of(alloc: Global, words: &[String]) -> Result<Command, WordsFault>
     ensures found { IfOk result (λ c. AreWordsOf (map string_bytes words.now) c) }
-    ensures command { (c : Commands) → AreWordsOf (map string_bytes words.now) c → (result ≡ Ok c) ⊎ (result ≡ Err WordsFault.Memory) }
+    ensures command { (c : Commands) → AreWordsOf (map string_bytes words.now) c → (result ≡ Ok c)
+        ⊎ (result ≡ Err WordsFault.Memory) }
 {
     found(alloc, words)
 }

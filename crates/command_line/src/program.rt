@@ -52,8 +52,10 @@ fn with_value<'a>(
     command: Result<Program<'a>, AllocError>,
     id: &'a str,
 ) -> Result<Program<'a>, AllocError>
-    ensures app { (known : App) → IfOk command.entry (λ c. app_of c ≡ known) → IfOk result (λ c. app_of c ≡ with_rule known (value_rule id.entry.now)) }
-    ensures local { IfOk command.entry (λ c. (out-Command c).has_globals ≡ false) → IfOk result (λ c. (out-Command c).has_globals ≡ false) }
+    ensures app { (known : App) → IfOk command.entry (λ c. app_of c ≡ known)
+        → IfOk result (λ c. app_of c ≡ with_rule known (value_rule id.entry.now)) }
+    ensures local { IfOk command.entry (λ c. (out-Command c).has_globals ≡ false)
+        → IfOk result (λ c. (out-Command c).has_globals ≡ false) }
 {
     match command {
         Ok(command) => command.arg(value(alloc, id)),
@@ -109,7 +111,8 @@ fn with_commands<'a>(
     above: Program<'a>,
     commands: &[(&'a str, &[&'a str])],
 ) -> Result<Program<'a>, AllocError>
-    ensures { (known : App) → app_of above.entry ≡ known → IfOk result (λ all. app_of all ≡ fold with_command known commands.now) }
+    ensures { (known : App) → app_of above.entry ≡ known
+        → IfOk result (λ all. app_of all ≡ fold with_command known commands.now) }
 {
     let mut all = above;
     for &(name, ids) in commands {

@@ -48,8 +48,10 @@ fn after_three<'a>(
     first: &str,
     second: &str,
 ) -> Option<&'a [String]>
-    ensures some { IfSome result (λ rest. map string_bytes words.entry.now ≡ name.now ∷ first.now ∷ second.now ∷ map string_bytes rest.now) }
-    ensures none { IfNone result ((rest : List (List ℕ)) → map string_bytes words.entry.now ≡ name.now ∷ first.now ∷ second.now ∷ rest → ⊥) }
+    ensures some { IfSome result (λ rest. map string_bytes words.entry.now
+        ≡ name.now ∷ first.now ∷ second.now ∷ map string_bytes rest.now) }
+    ensures none { IfNone result ((rest : List (List ℕ)) → map string_bytes words.entry.now
+        ≡ name.now ∷ first.now ∷ second.now ∷ rest → ⊥) }
 {
     after(after(after(words, name)?, first)?, second)
 }
@@ -80,7 +82,8 @@ fn are_five(
     third: &str,
     fourth: &str,
 ) -> bool
-    ensures { IsTrue result ↔ (map string_bytes words.now ≡ name.now ∷ first.now ∷ second.now ∷ third.now ∷ fourth.now ∷ []) }
+    ensures { IsTrue result ↔ (map string_bytes words.now
+        ≡ name.now ∷ first.now ∷ second.now ∷ third.now ∷ fourth.now ∷ []) }
 {
     match after_three(words, name, first, second) {
         Some(rest) => are_two(rest, third, fourth),
@@ -90,7 +93,8 @@ fn are_five(
 
 fn are_timed(words: &[String], name: &str, first: &str, second: &str, times: &[u32]) -> bool
     requires { AreTimes times.now }
-    ensures { IsTrue result ↔ (map string_bytes words.now ≡ name.now ∷ first.now ∷ second.now ∷ times_word times.now ∷ []) }
+    ensures { IsTrue result ↔ (map string_bytes words.now ≡ name.now ∷ first.now ∷ second.now ∷ times_word
+        times.now ∷ []) }
 {
     match after_three(words, name, first, second) {
         Some([word]) => are_times(word.as_str(), times),
@@ -108,7 +112,8 @@ fn name_session(words: &[String], name: &str, table: &TableName, session: u32) -
 
 /// Are they one that has a number behind it?
 fn name_number(words: &[String], name: &str, table: &TableName, session: u32, number: u32) -> bool
-    ensures { IsTrue result ↔ (map string_bytes words.now ≡ name.now ∷ table.now ∷ decimal session ∷ decimal number ∷ []) }
+    ensures { IsTrue result ↔ (map string_bytes words.now ≡ name.now ∷ table.now ∷ decimal session ∷ decimal
+        number ∷ []) }
 {
     let mut one = itoa::Buffer::new();
     let mut two = itoa::Buffer::new();

@@ -24,7 +24,8 @@ impl Model for TableName {
     ghost view = { λ s. take s.len s.cells };
 
     // What lies past the bytes is zero, so that equal names have equal cells.
-    ghost invariant = { λ s. (s.len ≤ 64) × (length s.cells ≡ 64) × (drop s.len s.cells ≡ replicate (64 - s.len) 0) × (is_table_name (take s.len s.cells) ≡ true) };
+    ghost invariant = { λ s. (s.len ≤ 64) × (length s.cells ≡ 64) × (drop s.len s.cells ≡ replicate (64 - s.len) 0)
+        × (is_table_name (take s.len s.cells) ≡ true) };
 
     ghost inverse = { λ bytes. record { cells = bytes ++ replicate (64 - length bytes) 0; len = length bytes } };
 

@@ -24,7 +24,8 @@ fn time_in(text: &str) -> Option<u32>
 /// The list of times that the word is, if it is one.
 pub(crate) fn times_in(word: &str) -> Option<ArrayVec<u32, 16>>
     ensures some { IfSome result (λ times. AreTimes times.items × (word.now ≡ times_word times.items)) }
-    ensures read { (times : List ℕ) → AreTimes times → word.now ≡ times_word times → IsSomeAnd result (λ read. read.items ≡ times) }
+    ensures read { (times : List ℕ) → AreTimes times → word.now ≡ times_word times
+        → IsSomeAnd result (λ read. read.items ≡ times) }
 {
     let mut times = ArrayVec::new();
     let mut rest = word;

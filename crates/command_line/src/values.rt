@@ -38,7 +38,8 @@ fn text<'a>(matches: &ArgMatches<'a>, id: &str) -> Option<&'a str>
 
 fn number_in(matches: &ArgMatches, id: &str, low: u32, high: u32) -> Option<u32>
     ensures within { IfSome result (λ n. (low ≤ n) × (n ≤ high)) }
-    ensures read { (n : ℕ) → low ≤ n → n ≤ high → first_of id.now (rows_of (found_of matches.now)) ≡ Some (decimal n) → result ≡ Some n }
+    ensures read { (n : ℕ) → low ≤ n → n ≤ high → first_of id.now (rows_of (found_of matches.now)) ≡ Some (decimal n)
+        → result ≡ Some n }
 {
     match text(matches, id) {
         Some(text) => number(text, low, high),
@@ -48,7 +49,8 @@ fn number_in(matches: &ArgMatches, id: &str, low: u32, high: u32) -> Option<u32>
 
 fn table_in(matches: &ArgMatches, id: &str) -> Option<TableName>
     ensures sound { IfSome result (λ t. is_table_name t ≡ true) }
-    ensures read { (t : List ℕ) → is_table_name t ≡ true → first_of id.now (rows_of (found_of matches.now)) ≡ Some t → result ≡ Some t }
+    ensures read { (t : List ℕ) → is_table_name t ≡ true → first_of id.now (rows_of (found_of matches.now)) ≡ Some t
+        → result ≡ Some t }
 {
     match text(matches, id) {
         Some(text) => TableName::from_text(text),
@@ -60,7 +62,8 @@ fn table_in(matches: &ArgMatches, id: &str) -> Option<TableName>
 fn session_at(matches: &ArgMatches, table_id: &str, session_id: &str) -> Option<(TableName, u32)>
     ensures sound { IfSome result (λ v. is_table_name v.0 ≡ true) }
     ensures all { (t : List ℕ) (n : ℕ) → is_table_name t ≡ true → n < 2 ^ 32
-        → first_of table_id.now (rows_of (found_of matches.now)) ≡ Some t → first_of session_id.now (rows_of (found_of matches.now)) ≡ Some (decimal n)
+        → first_of table_id.now (rows_of (found_of matches.now)) ≡ Some t
+        → first_of session_id.now (rows_of (found_of matches.now)) ≡ Some (decimal n)
         → result ≡ Some (t, n) }
 {
     let table = table_in(matches, table_id)?;
@@ -71,7 +74,8 @@ fn session_at(matches: &ArgMatches, table_id: &str, session_id: &str) -> Option<
 fn session_in(matches: &ArgMatches) -> Option<(TableName, u32)>
     ensures sound { IfSome result (λ v. is_table_name v.0 ≡ true) }
     ensures all { (t : List ℕ) (n : ℕ) → is_table_name t ≡ true → n < 2 ^ 32
-        → first_of (codes "TABLE") (rows_of (found_of matches.now)) ≡ Some t → first_of (codes "S") (rows_of (found_of matches.now)) ≡ Some (decimal n)
+        → first_of (codes "TABLE") (rows_of (found_of matches.now)) ≡ Some t
+        → first_of (codes "S") (rows_of (found_of matches.now)) ≡ Some (decimal n)
         → result ≡ Some (t, n) }
 {
     session_at(matches, "TABLE", "S")
@@ -81,7 +85,8 @@ fn session_in(matches: &ArgMatches) -> Option<(TableName, u32)>
 fn looks_in(matches: &ArgMatches) -> Option<(TableName, u32, u32)>
     ensures sound { IfSome result (λ v. (is_table_name v.0 ≡ true) × (1 ≤ v.2)) }
     ensures all { (t : List ℕ) (n k : ℕ) → is_table_name t ≡ true → n < 2 ^ 32 → 1 ≤ k → k < 2 ^ 32
-        → first_of (codes "TABLE") (rows_of (found_of matches.now)) ≡ Some t → first_of (codes "S") (rows_of (found_of matches.now)) ≡ Some (decimal n)
+        → first_of (codes "TABLE") (rows_of (found_of matches.now)) ≡ Some t
+        → first_of (codes "S") (rows_of (found_of matches.now)) ≡ Some (decimal n)
         → first_of (codes "LOOKS") (rows_of (found_of matches.now)) ≡ Some (decimal k)
         → result ≡ Some (t, n, k) }
 {
@@ -94,7 +99,8 @@ fn looks_in(matches: &ArgMatches) -> Option<(TableName, u32, u32)>
 fn messages_in(matches: &ArgMatches) -> Option<Command>
     ensures sound { IfSome result IsCommand }
     ensures all { (t : List ℕ) (n k : ℕ) → is_table_name t ≡ true → n < 2 ^ 32 → k < 2 ^ 32
-        → first_of (codes "TABLE") (rows_of (found_of matches.now)) ≡ Some t → first_of (codes "S") (rows_of (found_of matches.now)) ≡ Some (decimal n)
+        → first_of (codes "TABLE") (rows_of (found_of matches.now)) ≡ Some t
+        → first_of (codes "S") (rows_of (found_of matches.now)) ≡ Some (decimal n)
         → first_of (codes "FROM") (rows_of (found_of matches.now)) ≡ Some (decimal k)
         → result ≡ Some (Command.Messages t n k) }
 {
@@ -110,7 +116,8 @@ fn messages_in(matches: &ArgMatches) -> Option<Command>
 fn exercise_in(matches: &ArgMatches) -> Option<Command>
     ensures sound { IfSome result IsCommand }
     ensures all { (m n : ℕ) → m < 2 ^ 32 → 1 ≤ n → n ≤ 100000
-        → first_of (codes "SEED") (rows_of (found_of matches.now)) ≡ Some (decimal m) → first_of (codes "COUNT") (rows_of (found_of matches.now)) ≡ Some (decimal n)
+        → first_of (codes "SEED") (rows_of (found_of matches.now)) ≡ Some (decimal m)
+        → first_of (codes "COUNT") (rows_of (found_of matches.now)) ≡ Some (decimal n)
         → result ≡ Some (Command.Exercise m n) }
 {
     match number_in(matches, "SEED", 0, u32::MAX) {
@@ -125,7 +132,8 @@ fn exercise_in(matches: &ArgMatches) -> Option<Command>
 fn race_in(matches: &ArgMatches) -> Option<Command>
     ensures sound { IfSome result IsCommand }
     ensures all { (m n : ℕ) (ts : List ℕ) → m < 2 ^ 32 → 1 ≤ n → n ≤ 100000 → AreTimes ts
-        → first_of (codes "SEED") (rows_of (found_of matches.now)) ≡ Some (decimal m) → first_of (codes "COUNT") (rows_of (found_of matches.now)) ≡ Some (decimal n)
+        → first_of (codes "SEED") (rows_of (found_of matches.now)) ≡ Some (decimal m)
+        → first_of (codes "COUNT") (rows_of (found_of matches.now)) ≡ Some (decimal n)
         → first_of (codes "TIMES") (rows_of (found_of matches.now)) ≡ Some (times_word ts)
         → result ≡ Some (Command.Race m n (record { items = ts })) }
 {
@@ -138,8 +146,10 @@ fn race_in(matches: &ArgMatches) -> Option<Command>
 fn migrate_in(matches: &ArgMatches) -> Option<Command>
     ensures sound { IfSome result IsCommand }
     ensures all { (t u : List ℕ) (n m : ℕ) → is_table_name t ≡ true → n < 2 ^ 32 → is_table_name u ≡ true → m < 2 ^ 32
-        → first_of (codes "TABLE") (rows_of (found_of matches.now)) ≡ Some t → first_of (codes "S") (rows_of (found_of matches.now)) ≡ Some (decimal n)
-        → first_of (codes "NEWTABLE") (rows_of (found_of matches.now)) ≡ Some u → first_of (codes "T") (rows_of (found_of matches.now)) ≡ Some (decimal m)
+        → first_of (codes "TABLE") (rows_of (found_of matches.now)) ≡ Some t
+        → first_of (codes "S") (rows_of (found_of matches.now)) ≡ Some (decimal n)
+        → first_of (codes "NEWTABLE") (rows_of (found_of matches.now)) ≡ Some u
+        → first_of (codes "T") (rows_of (found_of matches.now)) ≡ Some (decimal m)
         → result ≡ Some (Command.Migrate t n u m) }
 {
     let (table, session) = session_in(matches)?;

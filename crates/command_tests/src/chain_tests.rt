@@ -76,10 +76,10 @@ fn a_message_that_is_not_read_is_not_sent_on(rt: HostRuntime) -> Result<(), Fail
     for call in 0..64 {
         let mut stage = failing_stage(alloc, call)?;
         let (status, written) = stage.play(alloc, Play::Chain, &[P, Q, SENT_ON])?;
-        let front = written
+        let prefix = written
             .as_slice()
             .strip_suffix(b"fault device 1 recv\n".as_slice());
-        let fails = front.is_some_and(|front| PRINTED.as_bytes().starts_with(front));
+        let fails = prefix.is_some_and(|prefix| PRINTED.as_bytes().starts_with(prefix));
         let goes = written.as_slice() == PRINTED.as_bytes();
         assert!(rt;
             if status == 7 {

@@ -21,7 +21,7 @@ fn transcript(alloc: Global) -> Result<Vec<u8>, AllocError> {
 /// Whether a prefix of the whole was written, with a line that tells a failed read behind it.
 fn tells_read(written: &[u8], whole: &[u8]) -> bool {
     match written.strip_suffix(b"fault read\n".as_slice()) {
-        Some(front) => whole.starts_with(front),
+        Some(prefix) => whole.starts_with(prefix),
         None => false,
     }
 }

@@ -5,8 +5,9 @@ ghost use Rattle.pump_frame.specs.Rows.{IsLawfulRow};
 ghost use Rattle.high_receiver.specs.Receiving.{IsRecvReady, recv_row};
 
 use disk_model::{Disk, PlainDisk, Role};
+use fixtures::row;
 use high_receiver::Receiver;
-use pump_frame::{Name, Payload, SessionRow};
+use pump_frame::{Payload, SessionRow};
 use pump_link::{MemSink, MemSource, Sink, Source};
 use pump_wrapper::{CompareFault, Cut, Cutter, GatherFault, Gathered, gather, skip_received};
 use stable_buffer::{Register, format};
@@ -89,27 +90,6 @@ fn a_file_is_cut_into_messages(rt: HostRuntime) -> Result<(), Fail> {
         assert!(rt; case.piece >= 1 && is_cut(rt.alloc(), case)?);
     }
     Ok(())
-}
-
-// Session 1 of message size 16.
-fn row() -> Option<SessionRow>
-    ensures lawful { IfSome result (λ row. IsLawfulRow row) }
-    ensures short { IfSome result (λ row. row.message ≡ 16) }
-{
-    Some(SessionRow {
-        id: 1,
-        low: Name::from_slice(b"weather")?,
-        high: Name::from_slice(b"watch")?,
-        capacity: 3,
-        message: 16,
-        window: 2,
-        start: 20000,
-        longest: 100_000,
-        resend: 500_000,
-        low_port: 7001,
-        high_port: 7002,
-        coarse: false,
-    })
 }
 
 // A receiver without messages.
@@ -195,7 +175,7 @@ fn is_gathered(alloc: Global, row: &SessionRow, case: &GatherRow) -> Result<bool
 
 #[test]
 fn messages_are_gathered(rt: HostRuntime) -> Result<(), Fail> {
-    let Some(row) = row() else {
+    let Some(row) = row(16) else {
         return Err(Fail::new("no row"));
     };
     let rows = [
@@ -334,7 +314,7 @@ fn is_compared(
 
 #[test]
 fn a_cutter_goes_on_behind_a_receiver(rt: HostRuntime) -> Result<(), Fail> {
-    let Some(row) = row() else {
+    let Some(row) = row(16) else {
         return Err(Fail::new("no row"));
     };
     let differs = Err(CompareFault::Differs { number: 0 });

@@ -5,8 +5,9 @@ ghost use Rattle.pump_frame.specs.Rows.{IsLawfulRow};
 ghost use Rattle.high_receiver.specs.Receiving.{IsRecvReady};
 
 use disk_model::{Disk, MemDisk, Role};
+use fixtures::row;
 use high_receiver::Receiver;
-use pump_frame::{Name, SessionRow};
+use pump_frame::SessionRow;
 use pump_link::{MemSink, MemSource};
 use pump_wrapper::{Gathered, WrapEnd, Wrapped, gather, wrap};
 use recovery::{Trio, open_receiver};
@@ -24,27 +25,6 @@ struct WrapRow<'a> {
     log_end: u64,
     gathered: Gathered,
     written: &'a [u8],
-}
-
-// Session 1 of message size 12.
-fn row() -> Option<SessionRow>
-    ensures lawful { IfSome result (λ row. IsLawfulRow row) }
-    ensures size { IfSome result (λ row. row.message ≡ 12) }
-{
-    Some(SessionRow {
-        id: 1,
-        low: Name::from_slice(b"weather")?,
-        high: Name::from_slice(b"watch")?,
-        capacity: 3,
-        message: 12,
-        window: 2,
-        start: 20000,
-        longest: 100_000,
-        resend: 500_000,
-        low_port: 7001,
-        high_port: 7002,
-        coarse: false,
-    })
 }
 
 fn new_disk(alloc: Global, fails: &[u64]) -> Result<MemDisk, AllocError> {
@@ -145,7 +125,7 @@ fn are_sent_anew(
 #[test]
 fn a_file_that_was_stopped_is_sent_on(rt: HostRuntime) -> Result<(), Fail> {
     let alloc = rt.alloc();
-    let Some(row) = row() else {
+    let Some(row) = row(12) else {
         return Err(Fail::new("no row"));
     };
     let whole = WrapRow {

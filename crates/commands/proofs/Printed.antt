@@ -11,7 +11,7 @@ use Rattle.high_receiver.specs.Receiving.{IsRecvReady, recv_count, recv_disk, re
 use Rattle.high_receiver.specs.declared.receiver.Receiver.{Receiver}
 use Rattle.high_receiver.proofs.Appends.{end_is}
 use Rattle.pump_frame.specs.declared.row.SessionRow.{SessionRow}
-use Rattle.pump_link.specs.Causes.{AppendsFront}
+use Rattle.pump_link.specs.Causes.{AppendsPrefix}
 use Rattle.stable_buffer.specs.Log.{RecvStands}
 use Rattle.stable_buffer.proofs.Cells.{value-selects}
 use Rattle.commands.specs.Messages.{message_line, message_lines, line_from}
@@ -44,24 +44,24 @@ line_more session from n walked message size false above =
     let long : length (drop from walked) ≡ length walked - from = length-drop from walked in
     sym (lines_push session from n (drop from walked) message (omega (arith, size, le, long))) ∙ ap (message_lines session from) (sym cut)
 
--- the lines of the first messages are a front of the lines of all
-lines_front : (session k : ℕ) (messages more : List (List ℕ)) → (rest : List ℕ) × (message_lines session k (messages ++ more) ≡ message_lines session k messages ++ rest)
-lines_front session k [] more = (message_lines session k more, refl)
-lines_front session k (m ∷ messages) more =
-    let later = lines_front session (k + 1) messages more in
+-- the lines of the first messages are a prefix of the lines of all
+lines_prefix : (session k : ℕ) (messages more : List (List ℕ)) → (rest : List ℕ) × (message_lines session k (messages ++ more) ≡ message_lines session k messages ++ rest)
+lines_prefix session k [] more = (message_lines session k more, refl)
+lines_prefix session k (m ∷ messages) more =
+    let later = lines_prefix session (k + 1) messages more in
     let first = message_line session k m in
     (later.0, ap (λ t. first ++ t) later.1 ∙ sym (append_assoc first (message_lines session (k + 1) messages) later.0))
 
-drop_front : (from : ℕ) (messages more : List (List ℕ)) → (rest : List (List ℕ)) × (drop from (messages ++ more) ≡ drop from messages ++ rest)
-drop_front zero messages more = (more, refl)
-drop_front (suc from) [] more = (drop (suc from) more, refl)
-drop_front (suc from) (m ∷ messages) more = drop_front from messages more
+drop_prefix : (from : ℕ) (messages more : List (List ℕ)) → (rest : List (List ℕ)) × (drop from (messages ++ more) ≡ drop from messages ++ rest)
+drop_prefix zero messages more = (more, refl)
+drop_prefix (suc from) [] more = (drop (suc from) more, refl)
+drop_prefix (suc from) (m ∷ messages) more = drop_prefix from messages more
 
 more_lines : (session from n : ℕ) (messages : List (List ℕ)) → (rest : List ℕ) × (message_lines session from (drop from messages) ≡ message_lines session from (drop from (take n messages)) ++ rest)
 more_lines session from n messages =
-    let cut = drop_front from (take n messages) (drop n messages) in
+    let cut = drop_prefix from (take n messages) (drop n messages) in
     let whole : drop from messages ≡ drop from (take n messages) ++ cut.0 = ap (drop from) (sym (take-append-drop n messages)) ∙ cut.1 in
-    let later = lines_front session from (drop from (take n messages)) cut.0 in
+    let later = lines_prefix session from (drop from (take n messages)) cut.0 in
     (later.0, ap (message_lines session from) whole ∙ later.1)
 
 -- a message more was walked
@@ -93,14 +93,14 @@ printed_none old session from messages =
     let none : drop from (take 0 messages) ≡ [] = drop_of_length-le (take 0 messages) (omega arith) in
     subst (λ (ms : List (List ℕ)). Appends old old (message_lines session from ms)) (sym none) (Appends-nil old)
 
--- .. and a front of the next line
-pub printed_front : (first second third : Option (List ℕ)) (session from n : ℕ) (messages : List (List ℕ)) (message : List ℕ) → n < length messages → message ≡ slice_index_or messages n []
-    → Appends first second (message_lines session from (drop from (take n messages))) → AppendsFront second third (line_from from session n message) → AppendsFront first third (message_lines session from (drop from messages))
-printed_front first second third session from n messages message low is wrote (front, rest, cut, wrote_on) =
+-- .. and a prefix of the next line
+pub printed_prefix : (first second third : Option (List ℕ)) (session from n : ℕ) (messages : List (List ℕ)) (message : List ℕ) → n < length messages → message ≡ slice_index_or messages n []
+    → Appends first second (message_lines session from (drop from (take n messages))) → AppendsPrefix second third (line_from from session n message) → AppendsPrefix first third (message_lines session from (drop from messages))
+printed_prefix first second third session from n messages message low is wrote (prefix, rest, cut, wrote_on) =
     let before = message_lines session from (drop from (take n messages)) in
     let later = more_lines session from (n + 1) messages in (
-      before ++ front,
+      before ++ prefix,
       rest ++ later.0,
-      later.1 ∙ ap (λ t. t ++ later.0) (sym (walked_more session from n messages message low is) ∙ ap (λ t. before ++ t) cut ∙ sym (append_assoc before front rest)) ∙ append_assoc (before ++ front) rest later.0,
-      Appends-trans first second third before front wrote wrote_on,
+      later.1 ∙ ap (λ t. t ++ later.0) (sym (walked_more session from n messages message low is) ∙ ap (λ t. before ++ t) cut ∙ sym (append_assoc before prefix rest)) ∙ append_assoc (before ++ prefix) rest later.0,
+      Appends-trans first second third before prefix wrote wrote_on,
     )

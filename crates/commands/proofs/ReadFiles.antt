@@ -12,11 +12,11 @@ use Rattle.commands.specs.declared.command_end.CommandEnd.{CommandEnd}
 pub read_of : (file : Option (List ℕ)) (old new slice : List ℕ) (n count : ℕ) → ReadsFile file old new n → length old ≡ 16777216 → count ≡ min n 16777216 → slice ≡ take count new → IsReadOf file slice
 read_of None old new slice n count reads size is cut = absurd reads
 read_of (Some bytes) old new slice n count reads size is cut =
-    let front = take (length old) bytes in
+    let prefix = take (length old) bytes in
     let rest = drop (length bytes) old in
-    let whole : length front ≡ min (length old) (length bytes) = length-take (length old) bytes in
-    let has : count ≡ length front = omega (arith, is, reads.0, size, whole) in
-    (bytes, refl, cut ∙ ap (take count) reads.1 ∙ ap (λ k. take k (front ++ rest)) has ∙ take_at front rest (length front) refl ∙ ap (λ k. take k bytes) size)
+    let whole : length prefix ≡ min (length old) (length bytes) = length-take (length old) bytes in
+    let has : count ≡ length prefix = omega (arith, is, reads.0, size, whole) in
+    (bytes, refl, cut ∙ ap (take count) reads.1 ∙ ap (λ k. take k (prefix ++ rest)) has ∙ take_at prefix rest (length prefix) refl ∙ ap (λ k. take k bytes) size)
 
 -- what the disk in memory has that was made of it
 pub read_so : (file : Option (List ℕ)) (told : Type 0) (made : Option Plain) (slice : List ℕ) (end : CommandEnd) (answer : Result Plain CommandEnd) → answer ≡ ok_or made end → IfSome made (Holds slice) → (told → IsReadOf file slice)

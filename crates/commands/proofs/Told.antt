@@ -7,7 +7,7 @@ use Rattle.disk_model.specs.declared.name.Role.{Role}
 use Rattle.disk_model.specs.declared.name.Role.TheVariants.{Low, High, Recv}
 use Rattle.pump_frame.specs.declared.row.SessionRow.{SessionRow}
 use Rattle.recovery.specs.Calls.{Calls, CallsHigh, is_device, is_low, is_high}
-use Rattle.recovery.specs.Refusals.{or_else, told_of, word_at, mark, fields, wanted, other_field, other_size, refused_front, refused_shape, refused_count, refused_disk, bad_slot, refused_pair, refused_pump}
+use Rattle.recovery.specs.Refusals.{or_else, told_of, word_at, mark, fields, wanted, other_field, other_size, refused_prefix, refused_shape, refused_count, refused_disk, bad_slot, refused_pair, refused_pump}
 use Rattle.recovery.specs.declared.why.Why.{Why}
 use Rattle.recovery.specs.declared.why.Why.TheVariants as whys
 use Rattle.stable_buffer.specs.Numbers.{length_at}
@@ -47,17 +47,17 @@ alone_size row Low size = alone_if (size == low_size row) None (Some (whys.Wrong
 alone_size row High size = alone_if (size == 80) None (Some (whys.WrongShape 6 size 80)) tt refl
 alone_size row Recv size = tt
 
-alone_front : (row : SessionRow) (role : Role) (size : ℕ) (front : List ℕ) → Alone (refused_front row role size front)
-alone_front row role size front =
-    let field = other_field 1 (fields row front) (wanted row role) in
-    alone_if (nat_le 80 size && (word_at front 0 == mark)) (or_else field (other_size row role size)) (Some (whys.NotABuffer size (if nat_lt size 4 then 0 else word_at front 0)))
-    (alone_or field (other_size row role size) (alone_field 1 (fields row front) (wanted row role)) (alone_size row role size)) refl
+alone_prefix : (row : SessionRow) (role : Role) (size : ℕ) (prefix : List ℕ) → Alone (refused_prefix row role size prefix)
+alone_prefix row role size prefix =
+    let field = other_field 1 (fields row prefix) (wanted row role) in
+    alone_if (nat_le 80 size && (word_at prefix 0 == mark)) (or_else field (other_size row role size)) (Some (whys.NotABuffer size (if nat_lt size 4 then 0 else word_at prefix 0)))
+    (alone_or field (other_size row role size) (alone_field 1 (fields row prefix) (wanted row role)) (alone_size row role size)) refl
 
 alone_count : (value : ℕ × ℕ) → Alone (refused_count value)
 alone_count value = alone_if (nat_le value.0 (2 ^ 48) && (value.1 == 0)) None (Some (whys.BadRegister value.0 value.1)) tt refl
 
 pub alone_disk : (row : SessionRow) (role : Role) (disk : List ℕ) → Alone (refused_disk row role disk)
-alone_disk row role disk = alone_or (refused_shape row role disk) (refused_count (value_of disk)) (alone_front row role (length disk) (take 80 disk)) (alone_count (value_of disk))
+alone_disk row role disk = alone_or (refused_shape row role disk) (refused_count (value_of disk)) (alone_prefix row role (length disk) (take 80 disk)) (alone_count (value_of disk))
 
 slot_if : (b : Bool) (why : Why) (later : Option Why) → kind why ≡ 1 → IfSome later (λ w. kind w ≡ 1) → IfSome (if b then Some why else later) (λ w. kind w ≡ 1)
 slot_if true why later h k = h

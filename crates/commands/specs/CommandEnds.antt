@@ -3,12 +3,14 @@ use Rattle.std.specs.Prelude.{◌≡◌, ◌⊎◌, ℕ, List, [], ◌∷◌, Op
 use Rattle.std.specs.Io.KnownBytes.{Appends}
 use Rattle.disk_model.specs.declared.name.Role.{Role}
 use Rattle.pump_frame.specs.Counts.{Rose}
-use Rattle.pump_link.specs.Causes.{AppendsFront}
+use Rattle.pump_link.specs.Causes.{AppendsPrefix}
 use Rattle.recovery.specs.Faults.{why_number, why_values}
 use Rattle.script_reader.specs.Transcript.{fault_line, line_with_end}
 use Rattle.script_reader.specs.declared.fault.Fault.TheVariants as faults
 use Rattle.commands.specs.declared.command_end.CommandEnd.{CommandEnd}
-use Rattle.commands.specs.declared.command_end.CommandEnd.TheVariants.{Done, Memory, Unread, BadLine, NoRow, Failed, Refused, Unconnected, Ahead, Full, Denied, Unfinished, Unwritten}
+use Rattle.commands.specs.declared.command_end.CommandEnd.TheVariants.{Done, Memory, Unread, BadLine, NoRow, Failed}
+use Rattle.commands.specs.declared.command_end.CommandEnd.TheVariants.{Refused, Unconnected, Ahead, Full, Denied}
+use Rattle.commands.specs.declared.command_end.CommandEnd.TheVariants.{Unfinished, Unwritten}
 
 abbrev pub end_status : CommandEnd → ℕ
 end_status Done = 0
@@ -38,11 +40,14 @@ end_line session Unwritten = []
 end_line session (BadLine line) = fault_line (faults.Script line)
 end_line session (NoRow number row) = table_line number row
 end_line session (Failed role) = fault_line (faults.Device session role)
-end_line session (Refused role why) = fault_line (faults.Disk session role (why_number why) (why_values why).0 (why_values why).1)
+end_line session (Refused role why) = fault_line (faults.Disk session role (why_number why) (why_values why).0
+    (why_values why).1)
 end_line session Unconnected = line_with_end (codes "fault" ∷ codes "link" ∷ [])
-end_line session (Ahead number count) = line_with_end (codes "fault" ∷ codes "ahead" ∷ decimal session ∷ decimal number ∷ decimal count ∷ [])
+end_line session (Ahead number count) = line_with_end (codes "fault" ∷ codes "ahead" ∷ decimal session ∷ decimal
+    number ∷ decimal count ∷ [])
 end_line session (Full end length size) = fault_line (faults.Full session end length size)
-end_line session (Denied code number) = line_with_end (codes "fault" ∷ codes "refused" ∷ decimal code ∷ decimal number ∷ [])
+end_line session (Denied code number) = line_with_end (codes "fault" ∷ codes "refused" ∷ decimal code ∷ decimal
+    number ∷ [])
 end_line session (Unfinished number) = line_with_end (codes "fault" ∷ codes "unfinished" ∷ decimal number ∷ [])
 
 -- the disk that this end names failed, where `fails` says which did
@@ -50,22 +55,23 @@ abbrev pub NamesFailed : (ℕ → Role → Type 0) → ℕ → CommandEnd → Ty
 NamesFailed fails session (Failed role) = fails session role
 NamesFailed fails session end = Unit {0}
 
--- it ends so, and what it is to write then was written; or a front of that was
+-- it ends so, and what it is to write then was written; or a prefix of that was
 abbrev pub EndsSo : (CommandEnd → List ℕ → Type 0) → Option (List ℕ) → Option (List ℕ) → CommandEnd → Type 0
-EndsSo Writes old new Unwritten = (end : CommandEnd) × (output : List ℕ) × Writes end output × AppendsFront old new output
+EndsSo Writes old new Unwritten = (end : CommandEnd) × (output : List ℕ) × Writes end output
+    × AppendsPrefix old new output
 EndsSo Writes old new end = (output : List ℕ) × Writes end output × Appends old new output
 
 -- .. with this status
 abbrev pub EndsWithStatus : (CommandEnd → List ℕ → Type 0) → Option (List ℕ) → Option (List ℕ) → ℕ → Type 0
 EndsWithStatus Writes old new status = (end : CommandEnd) × (end_status end ≡ status) × EndsSo Writes old new end
 
--- these bytes were written and the end is this one, or a front of them was and the sink's count rose
+-- these bytes were written and the end is this one, or a prefix of them was and the sink's count rose
 abbrev pub ClosesSo : Option (List ℕ) → Option (List ℕ) → ℕ → ℕ → List ℕ → CommandEnd → CommandEnd → Type 0
 ClosesSo old new before now bytes end result =
-    ((result ≡ end) × Appends old new bytes) ⊎ ((result ≡ Unwritten) × AppendsFront old new bytes × Rose before now)
+    ((result ≡ end) × Appends old new bytes) ⊎ ((result ≡ Unwritten) × AppendsPrefix old new bytes × Rose before now)
 
--- the fault of this end was written, or a front of it
+-- the fault of this end was written, or a prefix of it
 abbrev pub Closes : Option (List ℕ) → Option (List ℕ) → ℕ → CommandEnd → ℕ → Type 0
 Closes mid new session end status =
     ((status ≡ end_status end) × Appends mid new (end_line session end))
-    ⊎ ((status ≡ 4) × AppendsFront mid new (end_line session end))
+    ⊎ ((status ≡ 4) × AppendsPrefix mid new (end_line session end))

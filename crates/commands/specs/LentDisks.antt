@@ -20,11 +20,13 @@ LeavesOtherDisks before after name = (other : DiskName) → (other ≡ name → 
 
 -- .. but those of these two sessions
 abbrev pub LeavesOtherPair : Places → Places → ℕ → ℕ → Type 0
-LeavesOtherPair before after one two = (other : DiskName) → (other.session ≡ one → ⊥) → (other.session ≡ two → ⊥) → after other ≡ before other
+LeavesOtherPair before after one two = (other : DiskName) → (other.session ≡ one → ⊥) → (other.session ≡ two → ⊥)
+    → after other ≡ before other
 
 -- .. but the low disk and the high one of this session
 abbrev pub LeavesBut : Places → Places → ℕ → Type 0
-LeavesBut before after session = (other : DiskName) → (other ≡ disk_name session roles.Low → ⊥) → (other ≡ disk_name session roles.High → ⊥) → after other ≡ before other
+LeavesBut before after session = (other : DiskName) → (other ≡ disk_name session roles.Low → ⊥)
+    → (other ≡ disk_name session roles.High → ⊥) → after other ≡ before other
 
 -- the receiver's disk, which reads this, could not be taken, or not be opened
 abbrev pub StopsAtDisk : List ℕ → SessionRow → CommandEnd → Type 0
@@ -33,8 +35,8 @@ StopsAtDisk found row (Failed roles.Recv) = Unit {0}
 StopsAtDisk found row (Refused roles.Recv why) = refused_receiver row receiver_size found ≡ Some why
 StopsAtDisk found row end = ⊥
 
--- The disk was the first that was asked for, and it was not given, at which the shelf's count rose: all disks were where they were
--- at first
+-- The disk was the first that was asked for, and it was not given, at which the shelf's count rose: all disks were
+-- where they were at first
 pub record IsNotGivenFirst {S : Type 0} (m : Holdings S) (first : Places) : Type 0 where
   pub asked : S
   pub answered : S
@@ -45,4 +47,5 @@ pub record IsNotGivenFirst {S : Type 0} (m : Holdings S) (first : Places) : Type
 -- between these two states of the shelf the receiver's disk failed, which is taken alone, and the shelf's count rose
 abbrev pub RecvFailsAt : {S D : Type 0} → Holdings S → Meaning D → S → S → ℕ → Role → Type 0
 RecvFailsAt m d old new session role =
-    (role ≡ roles.Recv) × Rose (m.disk_faults old) (m.disk_faults new) × (IsNotGivenFirst m (m.disk old) ⊎ CameBackFailed m d (m.disk new) session roles.Recv)
+    (role ≡ roles.Recv) × Rose (m.disk_faults old) (m.disk_faults new) × (IsNotGivenFirst m (m.disk old)
+    ⊎ CameBackFailed m d (m.disk new) session roles.Recv)

@@ -1,5 +1,6 @@
 -- What printing the messages of a receiver writes, by how it ends.
-use Rattle.std.specs.Prelude.{◌≡◌, ℕ, ◌+◌, nat_lt, if◌then◌else◌, false, List, [], ◌∷◌, ◌++◌, drop, Option, Some, None, codes, decimal}
+use Rattle.std.specs.Prelude.{◌≡◌, ℕ, ◌+◌, nat_lt, if◌then◌else◌, false, List, [], ◌∷◌, ◌++◌, drop, Option, Some, None}
+use Rattle.std.specs.Prelude.{codes, decimal}
 use Rattle.disk_model.specs.Plain.{Plain, plain_meaning}
 use Rattle.disk_model.specs.declared.name.Role.TheVariants.{Recv}
 use Rattle.high_receiver.specs.Receiving.{IsRecvReady, recv_disk, recv_row}
@@ -18,12 +19,14 @@ use Rattle.commands.specs.declared.command_end.CommandEnd.TheVariants.{Done, Mem
 
 -- the line of a message: its session, its number and its bytes
 abbrev pub message_line : ℕ → ℕ → List ℕ → List ℕ
-message_line session number message = line_with_end (codes "message" ∷ decimal session ∷ decimal number ∷ hex_field message ∷ [])
+message_line session number message = line_with_end (codes "message" ∷ decimal session ∷ decimal number ∷ hex_field
+    message ∷ [])
 
 -- the lines of these messages, with the numbers from this one on
 abbrev pub message_lines : ℕ → ℕ → List (List ℕ) → List ℕ
 message_lines session number [] = []
-message_lines session number (message ∷ messages) = message_line session number message ++ message_lines session (number + 1) messages
+message_lines session number (message ∷ messages) = message_line session number message ++ message_lines session
+    (number + 1) messages
 
 -- what was read of the file is a receiver's disk of the row, which stands for these messages
 pub record HasLog (row : SessionRow) (file : Option (List ℕ)) (messages : List (List ℕ)) : Type 0 where
@@ -37,17 +40,21 @@ abbrev pub RefusesLog : SessionRow → List ℕ → CommandEnd → Type 0
 RefusesLog row read (Refused Recv why) = refused_receiver row receiver_size read ≡ Some why
 RefusesLog row read end = ⊥
 
--- What printing the messages of a session from a number on is to write, by how it ends. `table` is the table's file, `file` the
--- receiver's.
+-- What printing the messages of a session from a number on is to write, by how it ends. `table` is the table's file,
+-- `file` the receiver's.
 abbrev pub PrintsMessages : Option (List ℕ) → Option (List ℕ) → ℕ → ℕ → CommandEnd → List ℕ → Type 0
 PrintsMessages table file session from Done output =
-    (row : SessionRow) × HasRow table session row × (messages : List (List ℕ)) × HasLog row file messages × (output ≡ message_lines session from (drop from messages))
+    (row : SessionRow) × HasRow table session row × (messages : List (List ℕ)) × HasLog row file messages
+    × (output ≡ message_lines session from (drop from messages))
 PrintsMessages table file session from Memory output = output ≡ []
 PrintsMessages table file session from Unread output = output ≡ end_line session Unread
-PrintsMessages table file session from (NoRow number row) output = HasNoRow table session number row × (output ≡ end_line session (NoRow number row))
-PrintsMessages table file session from (Failed Recv) output = (row : SessionRow) × HasRow table session row × (output ≡ end_line session (Failed Recv))
+PrintsMessages table file session from (NoRow number row) output = HasNoRow table session number row
+    × (output ≡ end_line session (NoRow number row))
+PrintsMessages table file session from (Failed Recv) output = (row : SessionRow) × HasRow table session row
+    × (output ≡ end_line session (Failed Recv))
 PrintsMessages table file session from (Refused role why) output =
-    (row : SessionRow) × HasRow table session row × ((read : List ℕ) × IsReadOf file read × RefusesLog row read (Refused role why)) × (output ≡ end_line session (Refused role why))
+    (row : SessionRow) × HasRow table session row × ((read : List ℕ) × IsReadOf file read
+    × RefusesLog row read (Refused role why)) × (output ≡ end_line session (Refused role why))
 PrintsMessages table file session from end output = ⊥
 
 -- ---- private functions ----

@@ -1,4 +1,5 @@
--- What is read of the files of a session's disks while others may use them. Each is read by itself, at a moment of its own.
+-- What is read of the files of a session's disks while others may use them. Each is read by itself, at a moment of
+-- its own.
 use Rattle.std.specs.Prelude.{◌≡◌, false, ℕ, List, [], ◌∷◌, ◌++◌, take, codes, decimal, Option, Some, None}
 use Rattle.disk_model.specs.declared.name.Role.{Role}
 use Rattle.disk_model.specs.declared.name.Role.TheVariants.{Low, High, Recv}
@@ -30,7 +31,8 @@ IsReadOrNot unread file None = unread
 IsReadOrNot unread file (Some read) = IsReadOf file read
 
 -- what is read of the three files, of which the receiver's may be elsewhere; `unread` says that a read failed
-pub record AreRead (files : Role → Option (List ℕ)) (unread : Type 0) (low high : List ℕ) (recv : Option (List ℕ)) : Type 0 where
+pub record AreRead (files : Role → Option (List ℕ)) (unread : Type 0) (low high : List ℕ) (recv : Option (List ℕ)) :
+    Type 0 where
   pub low_read : IsReadOf (files Low) low
   pub high_read : IsReadOf (files High) high
   pub recv_read : IsReadOrNot unread (files Recv) recv
@@ -41,7 +43,8 @@ refused_recv row None = None
 refused_recv row (Some recv) = told_of Recv (refused_receiver row receiver_size recv)
 
 abbrev pub refused_each : SessionRow → List ℕ → List ℕ → Option (List ℕ) → Option (Role × Why)
-refused_each row low high recv = or_else (told_of Low (refused_disk row Low low)) (or_else (told_of High (refused_disk row High high)) (refused_recv row recv))
+refused_each row low high recv = or_else (told_of Low (refused_disk row Low low))
+    (or_else (told_of High (refused_disk row High high)) (refused_recv row recv))
 
 -- ---- private functions ----
 

@@ -21,15 +21,18 @@ use Rattle.commands.specs.declared.command_end.CommandEnd.TheVariants.{Done, Mem
 -- these messages with the numbers from this one on
 abbrev pub live_messages : ℕ → ℕ → List Payload → List Event
 live_messages session number [] = []
-live_messages session number (message ∷ messages) = Live session number message ∷ live_messages session (number + 1) messages
+live_messages session number (message ∷ messages) = Live session number message ∷ live_messages session (number + 1)
+    messages
 
 -- how many messages were accepted, removed and taken by the receiver, and the live ones
 abbrev pub shown_counts : ℕ → ℕ → ℕ → ℕ → List Payload → List ℕ
-shown_counts session accepted removed received live = text (Show session accepted removed received ∷ live_messages session removed live)
+shown_counts session accepted removed received live = text (Show session accepted removed received ∷ live_messages
+    session removed live)
 
 -- the counts that were found, and the accepted messages that are not removed
 abbrev pub shown : ℕ → Found → List ℕ
-shown session f = shown_counts session (length (accepted_in f)) f.removed (length f.received) (drop f.removed (accepted_in f))
+shown session f = shown_counts session (length (accepted_in f)) f.removed (length f.received)
+    (drop f.removed (accepted_in f))
 
 -- ---- the disks ----
 
@@ -46,24 +49,31 @@ pub record IsShown (before after : Places) (row : SessionRow) (output : List ℕ
 abbrev pub ShowStops : Places → Places → SessionRow → CommandEnd → Type 0
 ShowStops before after row Memory = ReadsAlike before after
 ShowStops before after row (Failed role) = ReadsAlike before after
-ShowStops before after row (Refused role why) = OfDisks before row.id (λ low high recv. IsRefused row low high recv role why) × ReadsAlike before after
+ShowStops before after row (Refused role why) = OfDisks before row.id (λ low high recv. IsRefused row low high recv role
+    why) × ReadsAlike before after
 ShowStops before after row end = ⊥
 
--- what showing the disks of a session is to write, and what it leaves, by how it ends. `file` is the table's, and `fails` says
--- which disk failed
+-- what showing the disks of a session is to write, and what it leaves, by how it ends. `file` is the table's, and
+-- `fails` says which disk failed
 abbrev pub Shows : Option (List ℕ) → Places → Places → (ℕ → Role → Type 0) → ℕ → CommandEnd → List ℕ → Type 0
-Shows file before after fails session Done output = (row : SessionRow) × HasRow file session row × (row.id ≡ session) × IsShown before after row output
+Shows file before after fails session Done output = (row : SessionRow) × HasRow file session row × (row.id ≡ session)
+    × IsShown before after row output
 Shows file before after fails session Memory output = ReadsAlike before after × (output ≡ [])
 Shows file before after fails session Unread output = (after ≡ before) × (output ≡ end_line session Unread)
-Shows file before after fails session (NoRow number row) output = HasNoRow file session number row × (after ≡ before) × (output ≡ end_line session (NoRow number row))
-Shows file before after fails session (Failed role) output = (row : SessionRow) × HasRow file session row × fails session role × ShowStops before after row (Failed role) × (output ≡ end_line session (Failed role))
-Shows file before after fails session (Refused role why) output = (row : SessionRow) × HasRow file session row × ShowStops before after row (Refused role why) × (output ≡ end_line session (Refused role why))
+Shows file before after fails session (NoRow number row) output = HasNoRow file session number row × (after ≡ before)
+    × (output ≡ end_line session (NoRow number row))
+Shows file before after fails session (Failed role) output = (row : SessionRow) × HasRow file session row
+    × fails session role × ShowStops before after row (Failed role) × (output ≡ end_line session (Failed role))
+Shows file before after fails session (Refused role why) output = (row : SessionRow) × HasRow file session row
+    × ShowStops before after row (Refused role why) × (output ≡ end_line session (Refused role why))
 Shows file before after fails session end output = ⊥
 
 -- before anything is written
-abbrev pub ShowsSo : {T : Type 0} → (T → List ℕ) → Option (List ℕ) → Places → Places → (ℕ → Role → Type 0) → ℕ → Result T CommandEnd → Type 0
+abbrev pub ShowsSo : {T : Type 0} → (T → List ℕ) → Option (List ℕ) → Places → Places → (ℕ → Role → Type 0) → ℕ
+    → Result T CommandEnd → Type 0
 ShowsSo bytes file before after fails session (Ok text) = Shows file before after fails session Done (bytes text)
-ShowsSo bytes file before after fails session (Err end) = Shows file before after fails session end (end_line session end)
+ShowsSo bytes file before after fails session (Err end) = Shows file before after fails session end
+    (end_line session end)
 
 -- the end where the disks are not opened
 abbrev pub end_at : Role → Option Why → CommandEnd

@@ -1,5 +1,6 @@
 -- The row of a session in the file of a table.
-use Rattle.std.specs.Prelude.{◌≡◌, ⊤, ℕ, nat_le, ◌==◌, if◌then◌else◌, List, length, find, Option, Some, None, Result, Ok, Err}
+use Rattle.std.specs.Prelude.{◌≡◌, ⊤, ℕ, nat_le, ◌==◌, if◌then◌else◌, List, length, find, Option, Some, None, Result}
+use Rattle.std.specs.Prelude.{Ok, Err}
 use Rattle.pump_frame.specs.Counts.{Rose}
 use Rattle.pump_frame.specs.declared.row.SessionRow.{SessionRow}
 use Rattle.session_table.specs.declared.fault.TableFault.{TableFault}
@@ -39,7 +40,8 @@ abbrev pub HasRow : Option (List ℕ) → ℕ → SessionRow → Type 0
 HasRow file session row = (bytes : List ℕ) × (file ≡ Some bytes) × (row_in bytes session ≡ Ok row)
 
 abbrev pub HasNoRow : Option (List ℕ) → ℕ → ℕ → ℕ → Type 0
-HasNoRow file session number row = (bytes : List ℕ) × (file ≡ Some bytes) × (row_in bytes session ≡ Err (NoRow number row))
+HasNoRow file session number row = (bytes : List ℕ) × (file ≡ Some bytes)
+    × (row_in bytes session ≡ Err (NoRow number row))
 
 -- why a table gives no row
 abbrev pub IsTableEnd : CommandEnd → Type 0

@@ -43,7 +43,8 @@ RoseAt d roles.Recv old new = Rose (d.count old.recv) (d.count new.recv)
 
 -- ---- on the shelf and off it ----
 
--- each was there to be taken, and reads what was read there; it is off the shelf; and where its count rose, so does the shelf's
+-- each was there to be taken, and reads what was read there; it is off the shelf; and where its count rose, so does
+-- the shelf's
 abbrev pub AreReadAt : {D : Type 0} → Meaning D → Places → ℕ → TakenDisks D → Type 0
 AreReadAt d places session disks = IsEach (λ role disk. ReadAt places session role (d.reading disk)) disks
 
@@ -51,20 +52,23 @@ abbrev pub AreOutAt : {D : Type 0} → Meaning D → Places → ℕ → TakenDis
 AreOutAt d places session disks = IsEach (λ role disk. IsOutAt places session role (d.count disk)) disks
 
 abbrev pub RiseAt : {D : Type 0} → Meaning D → Places → ℕ → ℕ → ℕ → TakenDisks D → Type 0
-RiseAt d places session before now disks = IsEach (λ role disk. RisesAt places session role (d.count disk) before now) disks
+RiseAt d places session before now disks = IsEach (λ role disk. RisesAt places session role (d.count disk) before now)
+    disks
 
 -- ---- formatting ----
 
 -- the disk of this role failed, or is not empty
 abbrev pub IsNotEmpty : {D : Type 0} → Meaning D → Role → D → D → CommandEnd → Type 0
 IsNotEmpty d role old new (Failed other) = (other ≡ role) × Rose (d.count old) (d.count new)
-IsNotEmpty d role old new (Refused other why) = (other ≡ role) × (d.tells → (d.reading old ≡ [] → ⊥) × (why ≡ NotEmpty (length (d.reading old))))
+IsNotEmpty d role old new (Refused other why) = (other ≡ role) × (d.tells → (d.reading old ≡ [] → ⊥)
+    × (why ≡ NotEmpty (length (d.reading old))))
 IsNotEmpty d role old new end = ⊥
 
 -- one of the three did, or this is the first that is not empty
 abbrev pub AreNotEmpty : {D : Type 0} → Meaning D → TakenDisks D → TakenDisks D → CommandEnd → Type 0
 AreNotEmpty d old new (Failed role) = RoseAt d role old new
-AreNotEmpty d old new (Refused role why) = d.tells → first_full (d.reading old.low) (d.reading old.high) (d.reading old.recv) ≡ Some (role, why)
+AreNotEmpty d old new (Refused role why) = d.tells
+    → first_full (d.reading old.low) (d.reading old.high) (d.reading old.recv) ≡ Some (role, why)
 AreNotEmpty d old new end = ⊥
 
 -- one failed

@@ -23,7 +23,8 @@ count_field (Some count) = decimal count
 -- how many messages are accepted, removed and received, how many lie in the relay, and how many may
 abbrev pub status_line : ℕ → ℕ → ℕ → Option ℕ → ℕ → List ℕ
 status_line session accepted removed received capacity =
-    line_with_end (codes "status" ∷ decimal session ∷ decimal accepted ∷ decimal removed ∷ count_field received ∷ decimal (accepted - removed) ∷ decimal capacity ∷ [])
+    line_with_end (codes "status" ∷ decimal session ∷ decimal accepted ∷ decimal removed ∷ count_field
+    received ∷ decimal (accepted - removed) ∷ decimal capacity ∷ [])
 
 -- the count that a disk's register holds, where the disk was read
 abbrev pub count_in : Option (List ℕ) → Option ℕ
@@ -32,15 +33,18 @@ count_in (Some read) = Some (value_of read).0
 
 -- the line of what was read of the three disks
 abbrev pub status_of : SessionRow → ℕ → List ℕ → List ℕ → Option (List ℕ) → List ℕ
-status_of row session low high recv = status_line session (value_of low).0 (value_of high).0 (count_in recv) row.capacity
+status_of row session low high recv = status_line session (value_of low).0 (value_of high).0 (count_in recv)
+    row.capacity
 
 -- none of them is refused, and this is their line
 abbrev pub IsToldLine : SessionRow → ℕ → List ℕ → List ℕ → List ℕ → Option (List ℕ) → Type 0
-IsToldLine row session output low high recv = (refused_each row low high recv ≡ None) × (output ≡ status_of row session low high recv)
+IsToldLine row session output low high recv = (refused_each row low high recv ≡ None)
+    × (output ≡ status_of row session low high recv)
 
 -- the files were read, and this holds of what was read
 abbrev pub ReadTo : (Role → Option (List ℕ)) → Type 0 → (List ℕ → List ℕ → Option (List ℕ) → Type 0) → Type 0
-ReadTo files unread Holds = (low high : List ℕ) × (recv : Option (List ℕ)) × AreRead files unread low high recv × Holds low high recv
+ReadTo files unread Holds = (low high : List ℕ) × (recv : Option (List ℕ)) × AreRead files unread low high recv
+    × Holds low high recv
 
 -- low's file was not read, or high's, which is read first
 abbrev pub IsUnreadFile : (Role → Option (List ℕ)) → Role → Type 0
@@ -48,17 +52,21 @@ IsUnreadFile files High = Unit {0}
 IsUnreadFile files Low = (high : List ℕ) × IsReadOf (files High) high
 IsUnreadFile files role = ⊥
 
--- What telling the state of a session is to write, by how it ends. `table` is the table's file, `files` are those of the disks, and
--- `unread` says that a read failed.
+-- What telling the state of a session is to write, by how it ends. `table` is the table's file, `files` are those of
+-- the disks, and `unread` says that a read failed.
 abbrev pub TellsStatus : Option (List ℕ) → (Role → Option (List ℕ)) → Type 0 → ℕ → CommandEnd → List ℕ → Type 0
-TellsStatus table files unread session Done output = (row : SessionRow) × HasRow table session row × ReadTo files unread (IsToldLine row session output)
+TellsStatus table files unread session Done output = (row : SessionRow) × HasRow table session row
+    × ReadTo files unread (IsToldLine row session output)
 TellsStatus table files unread session Memory output = output ≡ []
 TellsStatus table files unread session Unread output = output ≡ end_line session Unread
-TellsStatus table files unread session (NoRow number row) output = HasNoRow table session number row × (output ≡ end_line session (NoRow number row))
-TellsStatus table files unread session (Failed role) output = (row : SessionRow) × HasRow table session row × IsUnreadFile files role × (output ≡ end_line session (Failed role))
+TellsStatus table files unread session (NoRow number row) output = HasNoRow table session number row
+    × (output ≡ end_line session (NoRow number row))
+TellsStatus table files unread session (Failed role) output = (row : SessionRow) × HasRow table session row
+    × IsUnreadFile files role × (output ≡ end_line session (Failed role))
 TellsStatus table files unread session (Refused role why) output =
     (row : SessionRow) × HasRow table session row
-    × ReadTo files unread (λ low high recv. refused_each row low high recv ≡ Some (role, why)) × (output ≡ end_line session (Refused role why))
+    × ReadTo files unread (λ low high recv. refused_each row low high recv ≡ Some (role, why))
+    × (output ≡ end_line session (Refused role why))
 TellsStatus table files unread session end output = ⊥
 
 -- ---- private functions ----
@@ -87,7 +95,8 @@ pub record HasPumpCounts (row : SessionRow) (low high : List ℕ) (accepted remo
 -- memory was wanting, or one of them is refused
 abbrev pub RefusesPump : SessionRow → List ℕ → List ℕ → CommandEnd → Type 0
 RefusesPump row low high Memory = Unit {0}
-RefusesPump row low high (Refused role why) = or_else (told_of Low (refused_disk row Low low)) (told_of High (refused_disk row High high)) ≡ Some (role, why)
+RefusesPump row low high (Refused role why) = or_else (told_of Low (refused_disk row Low low))
+    (told_of High (refused_disk row High high)) ≡ Some (role, why)
 RefusesPump row low high end = ⊥
 
 -- the receiver's disk, where it was read, is refused
@@ -96,7 +105,8 @@ RefusesRecv row recv (Refused role why) = refused_recv row recv ≡ Some (role, 
 RefusesRecv row recv end = ⊥
 
 -- all three have these counts
-pub record HasCounts (row : SessionRow) (low high : List ℕ) (recv : Option (List ℕ)) (accepted removed : ℕ) (received : Option ℕ) : Type 0 where
+pub record HasCounts (row : SessionRow) (low high : List ℕ) (recv : Option (List ℕ)) (accepted removed : ℕ)
+    (received : Option ℕ) : Type 0 where
   pub fine : refused_each row low high recv ≡ None
   pub accepted_is : accepted ≡ (value_of low).0
   pub removed_is : removed ≡ (value_of high).0
@@ -128,9 +138,11 @@ StopsReading files end = ⊥
 abbrev pub StopsTelling : (Role → Option (List ℕ)) → Type 0 → SessionRow → CommandEnd → Type 0
 StopsTelling files unread row Memory = Unit {0}
 StopsTelling files unread row (Failed role) = IsUnreadFile files role
-StopsTelling files unread row (Refused role why) = ReadTo files unread (λ low high recv. refused_each row low high recv ≡ Some (role, why))
+StopsTelling files unread row (Refused role why) = ReadTo files unread (λ low high recv. refused_each row low high recv
+    ≡ Some (role, why))
 StopsTelling files unread row end = ⊥
 
 -- the counts are those of what was read of a session's files
 abbrev pub AreTold : (Role → Option (List ℕ)) → Type 0 → SessionRow → ℕ → ℕ → Option ℕ → Type 0
-AreTold files unread row accepted removed received = ReadTo files unread (λ low high recv. HasCounts row low high recv accepted removed received)
+AreTold files unread row accepted removed received = ReadTo files unread (λ low high recv. HasCounts row low high recv
+    accepted removed received)

@@ -37,13 +37,14 @@ end_of_gather (Err (gathers.NotWrapped number)) = NotWrapped number
 end_of_gather (Err (gathers.Device faults)) = Stopped (Failed roles.Recv)
 end_of_gather (Err gathers.Write) = Stopped Unwritten
 
--- Of the sink the second value is that at the end; `found` is what the receiver's disk reads. The disk could not be taken or not be
--- opened, and nothing was written; or the messages that it stands for were gathered.
+-- Of the sink the second value is that at the end; `found` is what the receiver's disk reads. The disk could not be
+-- taken or not be opened, and nothing was written; or the messages that it stands for were gathered.
 abbrev pub UnwrapsOn : SessionRow → List ℕ → Option (List ℕ) → Option (List ℕ) → UnwrapEnd → Type 0
 UnwrapsOn row found old new end =
     ((stop : CommandEnd) × StopsAtDisk found row stop × (end ≡ Stopped stop) × Appends old new [])
     ⊎ ((refused_receiver row receiver_size found ≡ None)
-    × ((messages : List (List ℕ)) × RecvStands row messages found × (gathered : Result Gathered GatherFault) × (end ≡ end_of_gather gathered) × Gathers row.message messages old new gathered))
+    × ((messages : List (List ℕ)) × RecvStands row messages found × (gathered : Result Gathered GatherFault)
+    × (end ≡ end_of_gather gathered) × Gathers row.message messages old new gathered))
 
 -- the row's messages are too short for a length
 abbrev pub UnwrapsFrom : SessionRow → List ℕ → Option (List ℕ) → Option (List ℕ) → UnwrapEnd → Type 0
@@ -56,14 +57,18 @@ abbrev pub NamesFailedDisk : (ℕ → Role → Type 0) → ℕ → UnwrapEnd →
 NamesFailedDisk fails session (Stopped end) = NamesFailed fails session end
 NamesFailedDisk fails session end = Unit {0}
 
--- With the row of the session, if the table has one; `file` is the table's. Every disk reads as it did, and the disk that failed is
--- named.
-abbrev pub Unwraps : Option (List ℕ) → Places → Places → (ℕ → Role → Type 0) → ℕ → Option (List ℕ) → Option (List ℕ) → UnwrapEnd → Type 0
+-- With the row of the session, if the table has one; `file` is the table's. Every disk reads as it did, and the disk
+-- that failed is named.
+abbrev pub Unwraps : Option (List ℕ) → Places → Places → (ℕ → Role → Type 0) → ℕ → Option (List ℕ) → Option (List ℕ)
+    → UnwrapEnd → Type 0
 Unwraps file before after fails session old new end =
     ReadsAlike before after × NamesFailedDisk fails session end
     × (((stop : CommandEnd) × StopsAtTable file session stop × (end ≡ Stopped stop) × Appends old new [])
-    ⊎ ((row : SessionRow) × HasRow file session row × UnwrapsFrom row (reading_at before row.id roles.Recv) old new end))
+    ⊎ ((row : SessionRow) × HasRow file session row
+    × UnwrapsFrom row (reading_at before row.id roles.Recv) old new end))
 
 -- .. with this status
-abbrev pub EndsUnwrap : Option (List ℕ) → Places → Places → (ℕ → Role → Type 0) → ℕ → Option (List ℕ) → Option (List ℕ) → ℕ → Type 0
-EndsUnwrap file before after fails session old new status = (end : UnwrapEnd) × (unwrap_status end ≡ status) × Unwraps file before after fails session old new end
+abbrev pub EndsUnwrap : Option (List ℕ) → Places → Places → (ℕ → Role → Type 0) → ℕ → Option (List ℕ) → Option (List ℕ)
+    → ℕ → Type 0
+EndsUnwrap file before after fails session old new status = (end : UnwrapEnd) × (unwrap_status end ≡ status)
+    × Unwraps file before after fails session old new end

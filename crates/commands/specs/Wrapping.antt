@@ -1,10 +1,11 @@
 -- What sending a file over a session leaves and writes, by how it ends. `before` and `after` say where each disk is.
-use Rattle.std.specs.Prelude.{◌≡◌, ◌⊎◌, ℕ, ◌<◌, ◌≤◌, Bool, true, false, List, [], ◌∷◌, length, Option, Some, codes, decimal}
+use Rattle.std.specs.Prelude.{◌≡◌, ◌⊎◌, ℕ, ◌<◌, ◌≤◌, Bool, true, false, List, [], ◌∷◌, length, Option, Some, codes}
+use Rattle.std.specs.Prelude.{decimal}
 use Rattle.std.specs.Io.KnownBytes.{Appends}
 use Rattle.disk_model.specs.declared.name.Role.{Role}
 use Rattle.pump_frame.specs.declared.payload.Payload.{Payload}
 use Rattle.pump_frame.specs.declared.row.SessionRow.{SessionRow}
-use Rattle.pump_link.specs.Causes.{AppendsFront}
+use Rattle.pump_link.specs.Causes.{AppendsPrefix}
 use Rattle.pump_wrapper.specs.Comparing.{Begins}
 use Rattle.pump_wrapper.specs.Cutting.{Gave}
 use Rattle.pump_wrapper.specs.Wrapped.{wrapped}
@@ -17,14 +18,16 @@ use Rattle.recovery.specs.declared.why.Why.TheVariants as whys
 use Rattle.script_reader.specs.Openings.{Found, accepted_in}
 use Rattle.script_reader.specs.Transcript.{line_with_end}
 use Rattle.stable_buffer.specs.Format.{new_bytes}
-use Rattle.script_replay.specs.Shelves.{Places, OfDisks, HasFound, IsRefusedFor, LeavesOtherSessions, ReadiesSession, ReadsAlike, reading_at}
+use Rattle.script_replay.specs.Shelves.{Places, OfDisks, HasFound, IsRefusedFor, LeavesOtherSessions, ReadiesSession}
+use Rattle.script_replay.specs.Shelves.{ReadsAlike, reading_at}
 use Rattle.two_worlds.specs.declared.applied.Stop.{Stop}
 use Rattle.two_worlds.specs.declared.applied.Stop.TheVariants as stops
 use Rattle.commands.specs.CommandEnds.{NamesFailed, end_line, end_status}
 use Rattle.commands.specs.Showing.{end_at}
 use Rattle.commands.specs.Tables.{HasRow, StopsAtFile}
 use Rattle.commands.specs.declared.command_end.CommandEnd.{CommandEnd}
-use Rattle.commands.specs.declared.command_end.CommandEnd.TheVariants.{Memory, Unread, BadLine, NoRow, Failed, Refused, Full, Unwritten}
+use Rattle.commands.specs.declared.command_end.CommandEnd.TheVariants.{Memory, Unread, BadLine, NoRow, Failed, Refused}
+use Rattle.commands.specs.declared.command_end.CommandEnd.TheVariants.{Full, Unwritten}
 use Rattle.commands.specs.declared.wrap.SendEnd.{SendEnd}
 use Rattle.commands.specs.declared.wrap.SendEnd.TheVariants.{Sent, Differs, TooLong, Stopped}
 
@@ -56,7 +59,8 @@ end_of_wrap (answers.Stopped stop) = Stopped (end_of_stop stop)
 -- ---- what is written ----
 
 abbrev pub sent_line : ℕ → ℕ → ℕ → List ℕ
-sent_line session bytes messages = line_with_end (codes "wrapped" ∷ decimal session ∷ decimal bytes ∷ decimal messages ∷ [])
+sent_line session bytes messages = line_with_end (codes "wrapped" ∷ decimal session ∷ decimal bytes ∷ decimal
+    messages ∷ [])
 
 abbrev pub differs_line : ℕ → ℕ → List ℕ
 differs_line session number = line_with_end (codes "fault" ∷ codes "wrapped" ∷ decimal session ∷ decimal number ∷ [])
@@ -72,18 +76,20 @@ send_line session (Stopped end) = end_line session end
 
 -- ---- the disks of the session ----
 
--- they held a session that had accepted these messages, and hold one now: no message is lost, and where one was added all are the
--- first messages of the file. What the answer says of it holds
-pub record HoldsOn (after : Places) (row : SessionRow) (left : Option (List ℕ)) (accepted : List Payload) (answer : WrapEnd) : Type 0 where
+-- they held a session that had accepted these messages, and hold one now: no message is lost, and where one was added
+-- all are the first messages of the file. What the answer says of it holds
+pub record HoldsOn (after : Places) (row : SessionRow) (left : Option (List ℕ)) (accepted : List Payload)
+    (answer : WrapEnd) : Type 0 where
   pub now : Found
   pub found : HasFound after row now
   pub grows : Begins accepted (accepted_in now)
   pub sent : (accepted_in now ≡ accepted) ⊎ BeginFile row left (accepted_in now)
   pub ends : EndsAt row left accepted now answer
 
--- The formatting of an empty disk failed: nothing of the file was read, of which these bytes were left before and after; and each of
--- the other two disks reads as it did, or was empty and is new.
-pub record FailsAtFormat (before after : Places) (row : SessionRow) (left now_left : Option (List ℕ)) (answer : WrapEnd) : Type 0 where
+-- The formatting of an empty disk failed: nothing of the file was read, of which these bytes were left before and
+-- after; and each of the other two disks reads as it did, or was empty and is new.
+pub record FailsAtFormat (before after : Places) (row : SessionRow) (left now_left : Option (List ℕ)) (answer : WrapEnd)
+    : Type 0 where
   pub role : Role
   pub faults : ℕ
   pub answer_is : answer ≡ answers.Refused role (whys.Device faults)
@@ -95,7 +101,8 @@ pub record FailsAtFormat (before after : Places) (row : SessionRow) (left now_le
 -- the whole file is with the receiver, where its bytes are told
 abbrev pub HoldsFile : Places → SessionRow → Option (List ℕ) → WrapEnd → Type 0
 HoldsFile after row (Some file) (answers.Done bytes messages) =
-    (bytes ≡ length file) × (messages ≡ length (wrapped row.message file)) × OfDisks after row.id (HoldAll row (wrapped row.message file))
+    (bytes ≡ length file) × (messages ≡ length (wrapped row.message file))
+    × OfDisks after row.id (HoldAll row (wrapped row.message file))
 HoldsFile after row left answer = Unit {0}
 
 -- they are refused, and each reads as it did, or is new where it was empty
@@ -105,10 +112,12 @@ RefusesSession before after row (answers.Refused role why) =
 RefusesSession before after row answer = Unit {0}
 
 -- what a sending that ends with this answer leaves
-pub record Leaves (before after : Places) (row : SessionRow) (left now_left : Option (List ℕ)) (answer : WrapEnd) : Type 0 where
+pub record Leaves (before after : Places) (row : SessionRow) (left now_left : Option (List ℕ)) (answer : WrapEnd) : Type
+    0 where
   pub others : LeavesOtherSessions before after row.id
   pub opened : IsNotOpened answer ⊎ ((f : Found) × HasFound before row f)
-  pub holds : (f : Found) → HasFound before row f → FailsAtFormat before after row left now_left answer ⊎ HoldsOn after row left (accepted_in f) answer
+  pub holds : (f : Found) → HasFound before row f → FailsAtFormat before after row left now_left answer
+      ⊎ HoldsOn after row left (accepted_in f) answer
   pub file : HoldsFile after row left answer
   pub refused : RefusesSession before after row answer
 
@@ -132,8 +141,9 @@ WrapsFrom before after row left now_left end =
     ((row.message < 9) × (end ≡ Stopped (NoRow 12 row.id)) × (after ≡ before))
     ⊎ ((9 ≤ row.message) × WrapsOn before after row left now_left end)
 
--- with the row of the session, if the table has one; `file` is the table's, `faults` and `now_faults` count the failed reads of the
--- shelf's files, and `left` and `now_left` are the bytes to send that the source has before and after
+-- with the row of the session, if the table has one; `file` is the table's, `faults` and `now_faults` count the
+-- failed reads of the shelf's files, and `left` and `now_left` are the bytes to send that the source has before and
+-- after
 abbrev pub Wraps : ℕ → ℕ → Option (List ℕ) → Places → Places → ℕ → Option (List ℕ) → Option (List ℕ) → SendEnd → Type 0
 Wraps faults now_faults file before after session left now_left end =
     ((stop : CommandEnd) × StopsAtFile faults now_faults file session stop × (end ≡ Stopped stop) × (after ≡ before))
@@ -150,19 +160,24 @@ NamesFailedDisk fails session (Stopped end) = NamesFailed fails session end
 NamesFailedDisk fails session end = Unit {0}
 
 -- .. and it is too long just where the source gave 2^48 bytes, and the disk that failed is named
-abbrev pub WrapsAll : ℕ → ℕ → Option (List ℕ) → Places → Places → (ℕ → Role → Type 0) → ℕ → Option (List ℕ) → Option (List ℕ) → SendEnd → Type 0
+abbrev pub WrapsAll : ℕ → ℕ → Option (List ℕ) → Places → Places → (ℕ → Role → Type 0) → ℕ → Option (List ℕ)
+    → Option (List ℕ) → SendEnd → Type 0
 WrapsAll faults now_faults file before after fails session left now_left end =
-    Wraps faults now_faults file before after session left now_left end × Gave 0 left now_left (is_long end) × NamesFailedDisk fails session end
+    Wraps faults now_faults file before after session left now_left end × Gave 0 left now_left (is_long end)
+    × NamesFailedDisk fails session end
 
--- it ends so, and its line was written; or a front of that was
+-- it ends so, and its line was written; or a prefix of that was
 abbrev pub WritesSend : (SendEnd → Type 0) → ℕ → Option (List ℕ) → Option (List ℕ) → SendEnd → Type 0
-WritesSend Ends session old new (Stopped Unwritten) = (end : SendEnd) × Ends end × AppendsFront old new (send_line session end)
+WritesSend Ends session old new (Stopped Unwritten) = (end : SendEnd) × Ends end
+    × AppendsPrefix old new (send_line session end)
 WritesSend Ends session old new end = Ends end × Appends old new (send_line session end)
 
 -- .. with this status
-abbrev pub EndsWrap : ℕ → ℕ → Option (List ℕ) → Places → Places → (ℕ → Role → Type 0) → ℕ → Option (List ℕ) → Option (List ℕ) → Option (List ℕ) → Option (List ℕ) → ℕ → Type 0
+abbrev pub EndsWrap : ℕ → ℕ → Option (List ℕ) → Places → Places → (ℕ → Role → Type 0) → ℕ → Option (List ℕ)
+    → Option (List ℕ) → Option (List ℕ) → Option (List ℕ) → ℕ → Type 0
 EndsWrap faults now_faults file before after fails session left now_left old new status =
-    (end : SendEnd) × (send_status end ≡ status) × WritesSend (WrapsAll faults now_faults file before after fails session left now_left) session old new end
+    (end : SendEnd) × (send_status end ≡ status)
+    × WritesSend (WrapsAll faults now_faults file before after fails session left now_left) session old new end
 
 -- one of its statuses
 abbrev pub IsSendStatus : ℕ → Type 0

@@ -3,9 +3,10 @@
 ghost use Rattle.std.specs.Prelude.{◌≡◌, ◌⊎◌, ◌≤◌, [], length, IfSome};
 ghost use Rattle.std.specs.Io.KnownBytes.{Appends};
 ghost use Rattle.pump_frame.specs.Counts.{Rose};
-ghost use Rattle.pump_link.specs.Causes.{AppendsFront};
+ghost use Rattle.pump_link.specs.Causes.{AppendsPrefix};
 ghost use Rattle.pump_audit.specs.declared.compared.Compared.TheVariants.{Differ};
-ghost use Rattle.commands.specs.Auditing.{verdict_line, verdict_status, part_word, compared_line, compared_status, EndsAudit, EndsComparison};
+ghost use Rattle.commands.specs.Auditing.{verdict_line, verdict_status, part_word, compared_line, compared_status};
+ghost use Rattle.commands.specs.Auditing.{EndsAudit, EndsComparison};
 
 use crate::command_end::{put, put_number, put_one, put_three, put_two};
 use arrayvec::ArrayVec;
@@ -84,7 +85,8 @@ fn put_compared(compared: &Compared, into: &mut ArrayVec<u8, 256>)
 /// Writes a line, and answers its status, or 4 where it could not be written.
 fn say<O: Sink>(line: &[u8], status: u8, out: &mut O) -> u8
     ensures { ((result ≡ status) × Appends (O.written out.old) (O.written out.new) line.now)
-        ⊎ ((result ≡ 4) × AppendsFront (O.written out.old) (O.written out.new) line.now × Rose (O.faults out.old) (O.faults out.new)) }
+        ⊎ ((result ≡ 4) × AppendsPrefix (O.written out.old) (O.written out.new) line.now
+        × Rose (O.faults out.old) (O.faults out.new)) }
 {
     match write_all(out, line) {
         Ok(()) => status,
@@ -95,7 +97,9 @@ fn say<O: Sink>(line: &[u8], status: u8, out: &mut O) -> u8
 /// Checks the record that the script is, and says what it found: status 0 where the record is clean, and
 /// 15 where a line of it is wrong (`docs/formats.md`, "Audits").
 pub fn audit_script<I: Source, O: Sink>(alloc: Global, script: &mut I, out: &mut O) -> u8
-    ensures ends { IfSome (I.left script.old) (λ bytes. EndsAudit bytes (Rose (I.faults script.old) (I.faults script.new)) (O.written out.old) (O.written out.new) result) }
+    ensures ends { IfSome (I.left script.old) (λ bytes.
+        EndsAudit bytes (Rose (I.faults script.old) (I.faults script.new)) (O.written out.old) (O.written out.new)
+        result) }
     ensures memory { result ≡ 1 → Appends (O.written out.old) (O.written out.new) [] }
     ensures read { result ≡ 3 → Rose (I.faults script.old) (I.faults script.new) }
     ensures unwritten { result ≡ 4 → Rose (O.faults out.old) (O.faults out.new) }
@@ -119,7 +123,9 @@ pub fn audit_script<I: Source, O: Sink>(alloc: Global, script: &mut I, out: &mut
 /// Compares Low's side of the two records that the script has, and says what it found: status 0 where they
 /// agree, 16 where an item differs, and 5 where a line is none of a record (`docs/formats.md`, "Audits").
 pub fn compare_script<I: Source, O: Sink>(alloc: Global, script: &mut I, out: &mut O) -> u8
-    ensures ends { IfSome (I.left script.old) (λ bytes. EndsComparison bytes (Rose (I.faults script.old) (I.faults script.new)) (O.written out.old) (O.written out.new) result) }
+    ensures ends { IfSome (I.left script.old) (λ bytes.
+        EndsComparison bytes (Rose (I.faults script.old) (I.faults script.new)) (O.written out.old) (O.written out.new)
+        result) }
     ensures memory { result ≡ 1 → Appends (O.written out.old) (O.written out.new) [] }
     ensures read { result ≡ 3 → Rose (I.faults script.old) (I.faults script.new) }
     ensures unwritten { result ≡ 4 → Rose (O.faults out.old) (O.faults out.new) }

@@ -172,7 +172,8 @@ pub fn put_end(session: u32, end: &CommandEnd, into: &mut ArrayVec<u8, 256>)
 
 /// Writes the last bytes of a command.
 pub fn close<O: Sink>(bytes: &[u8], end: CommandEnd, out: &mut O) -> CommandEnd
-    ensures { ClosesSo (O.written out.old) (O.written out.new) (O.faults out.old) (O.faults out.new) bytes.now end result }
+    ensures { ClosesSo (O.written out.old) (O.written out.new) (O.faults out.old) (O.faults out.new) bytes.now end
+        result }
 {
     match write_all(out, bytes) {
         Ok(()) => end,
@@ -182,7 +183,8 @@ pub fn close<O: Sink>(bytes: &[u8], end: CommandEnd, out: &mut O) -> CommandEnd
 
 /// Writes the fault of a command that is not done.
 pub fn fail<O: Sink>(session: u32, end: CommandEnd, out: &mut O) -> CommandEnd
-    ensures { ClosesSo (O.written out.old) (O.written out.new) (O.faults out.old) (O.faults out.new) (end_line session end) end result }
+    ensures { ClosesSo (O.written out.old) (O.written out.new) (O.faults out.old) (O.faults out.new)
+        (end_line session end) end result }
 {
     let mut line = ArrayVec::new();
     put_end(session, &end, &mut line);

@@ -23,16 +23,21 @@ pub struct DiskPair<D> {
 /// Takes the low and the high disk of a session off the shelf, the low one first. Where the second can't
 /// be taken, the first is put back.
 pub fn take_pair<S: Shelf>(shelf: &mut S, session: u32) -> Result<DiskPair<S::Disk>, NotTaken>
-    ensures low { IfOk result (λ disks. S.told.tells → ReadAt (S.told.disk shelf.old) session roles.Low (S.Disk.told.reading disks.low)) }
-    ensures high { IfOk result (λ disks. S.told.tells → ReadAt (S.told.disk shelf.old) session roles.High (S.Disk.told.reading disks.high)) }
-    ensures low_out { IfOk result (λ disks. IsOutAt (S.told.disk shelf.new) session roles.Low (S.Disk.told.count disks.low)) }
-    ensures high_out { IfOk result (λ disks. IsOutAt (S.told.disk shelf.new) session roles.High (S.Disk.told.count disks.high)) }
+    ensures low { IfOk result (λ disks. S.told.tells
+        → ReadAt (S.told.disk shelf.old) session roles.Low (S.Disk.told.reading disks.low)) }
+    ensures high { IfOk result (λ disks. S.told.tells
+        → ReadAt (S.told.disk shelf.old) session roles.High (S.Disk.told.reading disks.high)) }
+    ensures low_out { IfOk result (λ disks. IsOutAt (S.told.disk shelf.new) session roles.Low
+        (S.Disk.told.count disks.low)) }
+    ensures high_out { IfOk result (λ disks. IsOutAt (S.told.disk shelf.new) session roles.High
+        (S.Disk.told.count disks.high)) }
     ensures others { LeavesBut (S.told.disk shelf.old) (S.told.disk shelf.new) session }
     ensures alike { IfErr result (λ e. S.told.tells → ReadsAlike (S.told.disk shelf.old) (S.told.disk shelf.new)) }
     ensures back { IfErr result (λ e. S.told.tells → AllAreBack (S.told.disk shelf.old) (S.told.disk shelf.new)) }
     ensures role { IfErr result (λ e. (e.role ≡ roles.Low) ⊎ (e.role ≡ roles.High)) }
     ensures later { S.told.disk_faults shelf.old ≤ S.told.disk_faults shelf.new }
-    ensures cause { IfErr result (λ e. e.fault ≡ Failed → Rose (S.told.disk_faults shelf.old) (S.told.disk_faults shelf.new)) }
+    ensures cause { IfErr result (λ e. e.fault ≡ Failed
+        → Rose (S.told.disk_faults shelf.old) (S.told.disk_faults shelf.new)) }
     ensures asked { IfErr result (λ e. e.fault ≡ Failed → IsNotGiven S.told (S.told.disk shelf.old) session e.role) }
 {
     let low = take_disk(shelf, session, Role::Low)?;
@@ -49,11 +54,15 @@ pub fn take_pair<S: Shelf>(shelf: &mut S, session: u32) -> Result<DiskPair<S::Di
 pub fn put_pair_back<S: Shelf>(shelf: &mut S, session: u32, low: S::Disk, high: S::Disk)
     requires low { IsOut (S.told.disk shelf.old (disk_name session roles.Low)) }
     requires high { IsOut (S.told.disk shelf.old (disk_name session roles.High)) }
-    ensures low_back { S.told.tells → S.told.disk shelf.new (disk_name session roles.Low) ≡ OnShelf (S.Disk.told.reading low) }
-    ensures high_back { S.told.tells → S.told.disk shelf.new (disk_name session roles.High) ≡ OnShelf (S.Disk.told.reading high) }
+    ensures low_back { S.told.tells → S.told.disk shelf.new (disk_name session roles.Low)
+        ≡ OnShelf (S.Disk.told.reading low) }
+    ensures high_back { S.told.tells → S.told.disk shelf.new (disk_name session roles.High)
+        ≡ OnShelf (S.Disk.told.reading high) }
     ensures others { LeavesBut (S.told.disk shelf.old) (S.told.disk shelf.new) session }
-    ensures low_rises { RisesAt (S.told.disk shelf.old) session roles.Low (S.Disk.told.count low) (S.told.disk_faults shelf.old) (S.told.disk_faults shelf.new) }
-    ensures high_rises { RisesAt (S.told.disk shelf.old) session roles.High (S.Disk.told.count high) (S.told.disk_faults shelf.old) (S.told.disk_faults shelf.new) }
+    ensures low_rises { RisesAt (S.told.disk shelf.old) session roles.Low (S.Disk.told.count low)
+        (S.told.disk_faults shelf.old) (S.told.disk_faults shelf.new) }
+    ensures high_rises { RisesAt (S.told.disk shelf.old) session roles.High (S.Disk.told.count high)
+        (S.told.disk_faults shelf.old) (S.told.disk_faults shelf.new) }
     ensures later { S.told.disk_faults shelf.old ≤ S.told.disk_faults shelf.new }
 {
     put_disk_back(shelf, session, Role::Low, low);

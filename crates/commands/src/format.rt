@@ -10,7 +10,8 @@ ghost use Rattle.commands.specs.CommandEnds.{EndsSo, end_status};
 ghost use Rattle.commands.specs.Formatting.{IsFormatted, FormatStops, Formats, FormatsSo, IsDiskEnd, formatted_line};
 ghost use Rattle.script_replay.specs.Failing.{FailsAt};
 ghost use Rattle.script_replay.specs.Shelves.{AllAreBack};
-ghost use Rattle.commands.specs.TakenDisks.{HasBytes, CountOn, ReadOn, IsNotEmpty, AreNotEmpty, FailsAmong, StopsFormat};
+ghost use Rattle.commands.specs.TakenDisks.{HasBytes, CountOn, ReadOn, IsNotEmpty, AreNotEmpty, FailsAmong};
+ghost use Rattle.commands.specs.TakenDisks.{StopsFormat};
 ghost use Rattle.commands.specs.declared.command_end.CommandEnd.TheVariants as ends;
 
 use crate::command_end::{CommandEnd, close, fail};
@@ -59,7 +60,8 @@ fn format_disk<D: Disk>(disk: &mut D, row: &SessionRow, role: Role) -> Result<()
     requires lawful { IsLawfulRow row.now }
     ensures new { OnOk result (D.told.tells → D.told.reading disk.new ≡ new_bytes row.now role 0) }
     ensures counts { D.told.count disk.old ≤ D.told.count disk.new }
-    ensures stops { IfErr result (λ end. (end ≡ ends.Failed role) × Rose (D.told.count disk.old) (D.told.count disk.new)) }
+    ensures stops { IfErr result (λ end. (end ≡ ends.Failed role)
+        × Rose (D.told.count disk.old) (D.told.count disk.new)) }
 {
     match format(disk, row, role, 0) {
         Ok(()) => Ok(()),
@@ -105,10 +107,13 @@ pub fn untaken(not_taken: NotTaken) -> CommandEnd
 
 fn format_disks<S: Shelf>(shelf: &mut S, row: &SessionRow) -> Result<(), CommandEnd>
     requires lawful { IsLawfulRow row.now }
-    ensures formatted { OnOk result (S.told.tells → S.Disk.told.tells → IsFormatted (S.told.disk shelf.old) (S.told.disk shelf.new) row.now) }
-    ensures stops { IfErr result (λ end. S.told.tells → S.Disk.told.tells → FormatStops (S.told.disk shelf.old) (S.told.disk shelf.new) row.now end) }
+    ensures formatted { OnOk result (S.told.tells → S.Disk.told.tells
+        → IsFormatted (S.told.disk shelf.old) (S.told.disk shelf.new) row.now) }
+    ensures stops { IfErr result (λ end. S.told.tells → S.Disk.told.tells
+        → FormatStops (S.told.disk shelf.old) (S.told.disk shelf.new) row.now end) }
     ensures back { S.told.tells → AllAreBack (S.told.disk shelf.old) (S.told.disk shelf.new) }
-    ensures device { (role : DiskRole) → result ≡ Err (ends.Failed role) → FailsAt S.told S.Disk.told shelf.old shelf.new row.now.id role }
+    ensures device { (role : DiskRole) → result ≡ Err (ends.Failed role)
+        → FailsAt S.told S.Disk.told shelf.old shelf.new row.now.id role }
     ensures only { IfErr result IsDiskEnd }
 {
     let mut disks = match take_disks(shelf, row.id) {
@@ -127,9 +132,11 @@ fn format_row<S: Shelf>(
     shelf: &mut S,
 ) -> Result<(), CommandEnd>
     ensures formats { S.told.tells → S.Disk.told.tells
-        → FormatsSo (S.told.file shelf.old table.now) (S.told.disk shelf.old) (S.told.disk shelf.new) (FailsAt S.told S.Disk.told shelf.old shelf.new) session result }
+        → FormatsSo (S.told.file shelf.old table.now) (S.told.disk shelf.old) (S.told.disk shelf.new)
+        (FailsAt S.told S.Disk.told shelf.old shelf.new) session result }
     ensures back { S.told.tells → AllAreBack (S.told.disk shelf.old) (S.told.disk shelf.new) }
-    ensures device { (role : DiskRole) → result ≡ Err (ends.Failed role) → FailsAt S.told S.Disk.told shelf.old shelf.new session role }
+    ensures device { (role : DiskRole) → result ≡ Err (ends.Failed role)
+        → FailsAt S.told S.Disk.told shelf.old shelf.new session role }
     ensures read { result ≡ Err ends.Unread → Rose (S.told.faults shelf.old) (S.told.faults shelf.new) }
     ensures unwritten { result ≡ Err ends.Unwritten → ⊥ }
     ensures status { IfErr result (λ end. end_status end ≤ 8) }
@@ -159,9 +166,11 @@ pub fn format_session<S: Shelf, O: Sink>(
     out: &mut O,
 ) -> CommandEnd
     ensures ends { S.told.tells → S.Disk.told.tells
-        → EndsSo (Formats (S.told.file shelf.old table.now) (S.told.disk shelf.old) (S.told.disk shelf.new) (FailsAt S.told S.Disk.told shelf.old shelf.new) session) (O.written out.old) (O.written out.new) result }
+        → EndsSo (Formats (S.told.file shelf.old table.now) (S.told.disk shelf.old) (S.told.disk shelf.new)
+        (FailsAt S.told S.Disk.told shelf.old shelf.new) session) (O.written out.old) (O.written out.new) result }
     ensures back { S.told.tells → AllAreBack (S.told.disk shelf.old) (S.told.disk shelf.new) }
-    ensures device { (role : DiskRole) → result ≡ ends.Failed role → Rose (S.told.disk_faults shelf.old) (S.told.disk_faults shelf.new) }
+    ensures device { (role : DiskRole) → result ≡ ends.Failed role
+        → Rose (S.told.disk_faults shelf.old) (S.told.disk_faults shelf.new) }
     ensures read { result ≡ ends.Unread → Rose (S.told.faults shelf.old) (S.told.faults shelf.new) }
     ensures unwritten { result ≡ ends.Unwritten → Rose (O.faults out.old) (O.faults out.new) }
     ensures status { end_status result ≤ 8 }

@@ -1,6 +1,7 @@
 //! The messages that a receiver has are printed.
 
-ghost use Rattle.std.specs.Prelude.{◌≡◌, ◌+◌, ◌≤◌, ℕ, List, [], ◌∷◌, ◌++◌, length, drop, false, IfOk, IfErr, OnOk, OnErr, Err};
+ghost use Rattle.std.specs.Prelude.{◌≡◌, ◌+◌, ◌≤◌, ℕ, List, [], ◌∷◌, ◌++◌, length, drop, false, IfOk, IfErr, OnOk};
+ghost use Rattle.std.specs.Prelude.{OnErr, Err};
 ghost use Rattle.std.specs.Io.KnownBytes.{Appends};
 ghost use Rattle.arrayvec.specs.ArrayVec.{array_vec_len};
 ghost use Rattle.disk_model.specs.Plain.{plain_meaning};
@@ -9,12 +10,13 @@ ghost use Rattle.disk_model.specs.declared.name.Role.TheVariants as roles;
 ghost use Rattle.high_receiver.specs.Receiving.{IsRecvReady, recv_disk, recv_row};
 ghost use Rattle.pump_frame.specs.Counts.{Rose};
 ghost use Rattle.pump_frame.specs.Rows.{IsLawfulRow};
-ghost use Rattle.pump_link.specs.Causes.{AppendsFront, HasCause};
+ghost use Rattle.pump_link.specs.Causes.{AppendsPrefix, HasCause};
 ghost use Rattle.script_reader.specs.HexFields.{hex_field};
 ghost use Rattle.stable_buffer.specs.Log.{RecvStands};
 ghost use Rattle.commands.specs.CommandEnds.{EndsSo, ClosesSo, end_line, end_status};
 ghost use Rattle.commands.specs.Formatting.{IsDiskEnd};
-ghost use Rattle.commands.specs.Messages.{message_line, message_lines, line_from, PrintsMessages, OpensLog, RefusesLog, StopsLog};
+ghost use Rattle.commands.specs.Messages.{message_line, message_lines, line_from, PrintsMessages, OpensLog, RefusesLog};
+ghost use Rattle.commands.specs.Messages.{StopsLog};
 ghost use Rattle.commands.specs.ReadDisks.{disk_file, IsReadOf};
 ghost use Rattle.commands.specs.Tables.{HasRow};
 ghost use Rattle.commands.specs.declared.command_end.CommandEnd.TheVariants as ends;
@@ -73,8 +75,10 @@ fn write_from<O: Sink>(
     out: &mut O,
 ) -> Result<(), WriteFault>
     requires short { length message.now ≤ 1024 }
-    ensures ok { OnOk result (Appends (O.written out.old) (O.written out.new) (line_from from session number message.now)) }
-    ensures err { OnErr result (AppendsFront (O.written out.old) (O.written out.new) (line_from from session number message.now)) }
+    ensures ok { OnOk result (Appends (O.written out.old) (O.written out.new)
+        (line_from from session number message.now)) }
+    ensures err { OnErr result (AppendsPrefix (O.written out.old) (O.written out.new)
+        (line_from from session number message.now)) }
     ensures cause { HasCause (O.faults out.old) (O.faults out.new) result }
 {
     if number < u64::from(from) {
@@ -95,7 +99,8 @@ fn write_messages<O: Sink>(
     requires ready { IsRecvReady plain_meaning receiver }
     requires calm { (recv_disk receiver).armed ≡ false }
     ensures { (messages : List (List ℕ)) → RecvStands (recv_row receiver) messages (recv_disk receiver).bytes
-        → ClosesSo (O.written out.old) (O.written out.new) (O.faults out.old) (O.faults out.new) (message_lines session from (drop from messages)) ends.Done result }
+        → ClosesSo (O.written out.old) (O.written out.new) (O.faults out.old) (O.faults out.new)
+        (message_lines session from (drop from messages)) ends.Done result }
 {
     let mut log = receiver.reader();
     for number in 0..receiver.count() {
@@ -135,11 +140,14 @@ fn row_log<S: Shelf>(
 ) -> Result<Receiver<PlainDisk>, CommandEnd>
     requires lawful { IsLawfulRow row.now }
     ensures opens { IfOk result OpensLog }
-    ensures read { IfOk result (λ receiver. S.told.tells → IsReadOf (disk_file (S.told.file shelf.old) session roles.Recv) (recv_disk receiver).bytes) }
+    ensures read { IfOk result (λ receiver. S.told.tells
+        → IsReadOf (disk_file (S.told.file shelf.old) session roles.Recv) (recv_disk receiver).bytes) }
     ensures row { IfOk result (λ receiver. recv_row receiver ≡ row.now) }
-    ensures stops { IfErr result (λ end. S.told.tells → StopsLog row.now (disk_file (S.told.file shelf.old) session roles.Recv) end) }
+    ensures stops { IfErr result (λ end. S.told.tells
+        → StopsLog row.now (disk_file (S.told.file shelf.old) session roles.Recv) end) }
     ensures only { IfErr result IsDiskEnd }
-    ensures device { (role : DiskRole) → result ≡ Err (ends.Failed role) → Rose (S.told.faults shelf.old) (S.told.faults shelf.new) }
+    ensures device { (role : DiskRole) → result ≡ Err (ends.Failed role)
+        → Rose (S.told.faults shelf.old) (S.told.faults shelf.new) }
     ensures disks { S.told.disk shelf.new ≡ S.told.disk shelf.old }
 {
     let Some(mut room) = file_room(alloc) else {
@@ -159,10 +167,15 @@ fn read_log<S: Shelf>(
     shelf: &mut S,
 ) -> Result<Receiver<PlainDisk>, CommandEnd>
     ensures opens { IfOk result OpensLog }
-    ensures read { IfOk result (λ receiver. S.told.tells → IsReadOf (disk_file (S.told.file shelf.old) session roles.Recv) (recv_disk receiver).bytes) }
-    ensures row { IfOk result (λ receiver. S.told.tells → HasRow (S.told.file shelf.old table.now) session (recv_row receiver)) }
-    ensures stops { IfErr result (λ end. (from : ℕ) → S.told.tells → PrintsMessages (S.told.file shelf.old table.now) (disk_file (S.told.file shelf.old) session roles.Recv) session from end (end_line session end)) }
-    ensures device { (role : DiskRole) → result ≡ Err (ends.Failed role) → Rose (S.told.faults shelf.old) (S.told.faults shelf.new) }
+    ensures read { IfOk result (λ receiver. S.told.tells
+        → IsReadOf (disk_file (S.told.file shelf.old) session roles.Recv) (recv_disk receiver).bytes) }
+    ensures row { IfOk result (λ receiver. S.told.tells
+        → HasRow (S.told.file shelf.old table.now) session (recv_row receiver)) }
+    ensures stops { IfErr result (λ end. (from : ℕ) → S.told.tells
+        → PrintsMessages (S.told.file shelf.old table.now) (disk_file (S.told.file shelf.old) session roles.Recv)
+        session from end (end_line session end)) }
+    ensures device { (role : DiskRole) → result ≡ Err (ends.Failed role)
+        → Rose (S.told.faults shelf.old) (S.told.faults shelf.new) }
     ensures unread { result ≡ Err ends.Unread → Rose (S.told.faults shelf.old) (S.told.faults shelf.new) }
     ensures unwritten { result ≡ Err ends.Unwritten → ⊥ }
     ensures status { IfErr result (λ end. end_status end ≤ 8) }
@@ -184,9 +197,12 @@ pub fn print_messages<S: Shelf, O: Sink>(
     shelf: &mut S,
     out: &mut O,
 ) -> CommandEnd
-    ensures ends { S.told.tells → EndsSo (PrintsMessages (S.told.file shelf.old table.now) (disk_file (S.told.file shelf.old) session roles.Recv) session from) (O.written out.old) (O.written out.new) result }
+    ensures ends { S.told.tells → EndsSo (PrintsMessages (S.told.file shelf.old table.now)
+        (disk_file (S.told.file shelf.old) session roles.Recv) session from) (O.written out.old) (O.written out.new)
+        result }
     ensures disks { S.told.disk shelf.new ≡ S.told.disk shelf.old }
-    ensures device { (role : DiskRole) → result ≡ ends.Failed role → Rose (S.told.faults shelf.old) (S.told.faults shelf.new) }
+    ensures device { (role : DiskRole) → result ≡ ends.Failed role
+        → Rose (S.told.faults shelf.old) (S.told.faults shelf.new) }
     ensures read { result ≡ ends.Unread → Rose (S.told.faults shelf.old) (S.told.faults shelf.new) }
     ensures unwritten { result ≡ ends.Unwritten → Rose (O.faults out.old) (O.faults out.new) }
     ensures status { end_status result ≤ 8 }

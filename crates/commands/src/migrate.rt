@@ -12,7 +12,9 @@ ghost use Rattle.commands.specs.CommandEnds.{EndsSo, end_status};
 ghost use Rattle.commands.specs.Formatting.{IsDiskEnd};
 ghost use Rattle.commands.specs.Tables.{IsTableEnd};
 ghost use Rattle.commands.specs.LentDisks.{LeavesOtherPair};
-ghost use Rattle.commands.specs.Migrating.{HasNoRows, AreRows, Migrates, MigratesTo, MovesTo, StopsMove, MigratesSo, HaltsSo, IsUntaken, counted, counted_line, halted, session_at, taken_of, trio_of};
+ghost use Rattle.commands.specs.Migrating.{HasNoRows, AreRows, Migrates, MigratesTo, MovesTo, StopsMove, MigratesSo};
+ghost use Rattle.commands.specs.Migrating.{HaltsSo, IsUntaken, counted, counted_line, halted, session_at, taken_of};
+ghost use Rattle.commands.specs.Migrating.{trio_of};
 ghost use Rattle.commands.specs.TakenDisks.{AreReadAt, AreOutAt, RiseAt, CountOn, ReadOn, SpareOn};
 ghost use Rattle.commands.specs.declared.command_end.CommandEnd.TheVariants as ends;
 
@@ -76,11 +78,15 @@ fn rows_in_files<S: Shelf>(
     new_session: u32,
     shelf: &mut S,
 ) -> Result<RowPair, CommandEnd>
-    ensures rows { IfOk result (λ rows. S.told.tells → AreRows (S.told.file shelf.old table.now) (S.told.file shelf.old new_table.now) session new_session rows.row rows.new_row) }
+    ensures rows { IfOk result (λ rows. S.told.tells
+        → AreRows (S.told.file shelf.old table.now) (S.told.file shelf.old new_table.now) session new_session rows.row
+        rows.new_row) }
     ensures none { (number place : ℕ) → result ≡ Err (ends.NoRow number place) → S.told.tells
-        → HasNoRows (S.told.file shelf.old table.now) (S.told.file shelf.old new_table.now) session new_session number place }
+        → HasNoRows (S.told.file shelf.old table.now) (S.told.file shelf.old new_table.now) session new_session number
+        place }
     ensures lawful { IfOk result (λ rows. IsLawfulRow rows.row × IsLawfulRow rows.new_row) }
-    ensures ids { IfOk result (λ rows. (rows.row.id ≡ session) × (rows.new_row.id ≡ new_session) × (session ≡ new_session → ⊥)) }
+    ensures ids { IfOk result (λ rows. (rows.row.id ≡ session) × (rows.new_row.id ≡ new_session)
+        × (session ≡ new_session → ⊥)) }
     ensures read { result ≡ Err ends.Unread → Rose (S.told.faults shelf.old) (S.told.faults shelf.new) }
     ensures disks { S.told.disk shelf.new ≡ S.told.disk shelf.old }
     ensures disk_faults { S.told.disk_faults shelf.new ≡ S.told.disk_faults shelf.old }
@@ -106,15 +112,18 @@ fn take_both<S: Shelf>(
 ) -> Result<BothDisks<S::Disk>, Halt>
     requires two { session ≡ new_session → ⊥ }
     ensures old { IfOk result (λ both. S.told.tells → AreReadAt S.Disk.told (S.told.disk shelf.old) session both.old) }
-    ensures new { IfOk result (λ both. S.told.tells → AreReadAt S.Disk.told (S.told.disk shelf.old) new_session both.new) }
+    ensures new { IfOk result (λ both. S.told.tells
+        → AreReadAt S.Disk.told (S.told.disk shelf.old) new_session both.new) }
     ensures old_out { IfOk result (λ both. AreOutAt S.Disk.told (S.told.disk shelf.new) session both.old) }
     ensures new_out { IfOk result (λ both. AreOutAt S.Disk.told (S.told.disk shelf.new) new_session both.new) }
     ensures others { LeavesOtherPair (S.told.disk shelf.old) (S.told.disk shelf.new) session new_session }
     ensures alike { IfErr result (λ halt. S.told.tells → ReadsAlike (S.told.disk shelf.old) (S.told.disk shelf.new)) }
     ensures back { IfErr result (λ halt. S.told.tells → AllAreBack (S.told.disk shelf.old) (S.told.disk shelf.new)) }
-    ensures untaken { IfErr result (λ halt. IsUntaken halt.end × ((is_new : Bool) × (halt.session ≡ session_at session new_session is_new))) }
+    ensures untaken { IfErr result (λ halt. IsUntaken halt.end
+        × ((is_new : Bool) × (halt.session ≡ session_at session new_session is_new))) }
     ensures later { S.told.disk_faults shelf.old ≤ S.told.disk_faults shelf.new }
-    ensures device { IfErr result (λ halt. (role : DiskRole) → halt.end ≡ ends.Failed role → FailsAt S.told S.Disk.told shelf.old shelf.new halt.session role) }
+    ensures device { IfErr result (λ halt. (role : DiskRole) → halt.end ≡ ends.Failed role
+        → FailsAt S.told S.Disk.told shelf.old shelf.new halt.session role) }
 {
     let old = match take_disks(shelf, session) {
         Ok(old) => old,
@@ -148,11 +157,15 @@ fn put_both_back<S: Shelf>(
     requires two { session ≡ new_session → ⊥ }
     requires old { (role : DiskRole) → IsOut (S.told.disk shelf.old (disk_name session role)) }
     requires new { (role : DiskRole) → IsOut (S.told.disk shelf.old (disk_name new_session role)) }
-    ensures old_back { S.told.tells → AreOnShelf (S.told.disk shelf.new) session (S.Disk.told.reading old.low) (S.Disk.told.reading old.high) (S.Disk.told.reading old.recv) }
-    ensures new_back { S.told.tells → AreOnShelf (S.told.disk shelf.new) new_session (S.Disk.told.reading new.low) (S.Disk.told.reading new.high) (S.Disk.told.reading new.recv) }
+    ensures old_back { S.told.tells → AreOnShelf (S.told.disk shelf.new) session (S.Disk.told.reading old.low)
+        (S.Disk.told.reading old.high) (S.Disk.told.reading old.recv) }
+    ensures new_back { S.told.tells → AreOnShelf (S.told.disk shelf.new) new_session (S.Disk.told.reading new.low)
+        (S.Disk.told.reading new.high) (S.Disk.told.reading new.recv) }
     ensures others { LeavesOtherPair (S.told.disk shelf.old) (S.told.disk shelf.new) session new_session }
-    ensures old_rise { RiseAt S.Disk.told (S.told.disk shelf.old) session (S.told.disk_faults shelf.old) (S.told.disk_faults shelf.new) old }
-    ensures new_rise { RiseAt S.Disk.told (S.told.disk shelf.old) new_session (S.told.disk_faults shelf.old) (S.told.disk_faults shelf.new) new }
+    ensures old_rise { RiseAt S.Disk.told (S.told.disk shelf.old) session (S.told.disk_faults shelf.old)
+        (S.told.disk_faults shelf.new) old }
+    ensures new_rise { RiseAt S.Disk.told (S.told.disk shelf.old) new_session (S.told.disk_faults shelf.old)
+        (S.told.disk_faults shelf.new) new }
     ensures later { S.told.disk_faults shelf.old ≤ S.told.disk_faults shelf.new }
 {
     put_disks_back(shelf, session, old.low, old.high, old.recv);
@@ -199,8 +212,10 @@ fn move_disks<D: Disk>(
 ) -> Moved<D>
     requires lawful { IsLawfulRow row.now }
     requires new_lawful { IsLawfulRow new_row.now }
-    ensures moved { IfOk result.end (λ counts. D.told.tells → MovesTo D.told row.now new_row.now old new result.new counts) }
-    ensures stops { IfErr result.end (λ fault. StopsMove D.told row.now new_row.now old result.old new result.new fault) }
+    ensures moved { IfOk result.end (λ counts. D.told.tells
+        → MovesTo D.told row.now new_row.now old new result.new counts) }
+    ensures stops { IfErr result.end (λ fault. StopsMove D.told row.now new_row.now old result.old new result.new
+        fault) }
     ensures read { ReadOn D.told old result.old }
     ensures spared { SpareOn D.told new result.new }
     ensures counts { CountOn D.told old result.old }
@@ -235,10 +250,13 @@ fn migrate_disks<S: Shelf>(
     requires lawful { IsLawfulRow row.now }
     requires new_lawful { IsLawfulRow new_row.now }
     requires two { row.now.id ≡ new_row.now.id → ⊥ }
-    ensures moved { IfOk result (λ counts. S.told.tells → S.Disk.told.tells → MigratesTo (S.told.disk shelf.old) (S.told.disk shelf.new) row.now new_row.now counts) }
-    ensures stops { IfErr result (λ halt. S.told.tells → S.Disk.told.tells → HaltsSo (S.told.disk shelf.old) (S.told.disk shelf.new) row.now new_row.now halt) }
+    ensures moved { IfOk result (λ counts. S.told.tells → S.Disk.told.tells
+        → MigratesTo (S.told.disk shelf.old) (S.told.disk shelf.new) row.now new_row.now counts) }
+    ensures stops { IfErr result (λ halt. S.told.tells → S.Disk.told.tells
+        → HaltsSo (S.told.disk shelf.old) (S.told.disk shelf.new) row.now new_row.now halt) }
     ensures back { S.told.tells → AllAreBack (S.told.disk shelf.old) (S.told.disk shelf.new) }
-    ensures device { IfErr result (λ halt. (role : DiskRole) → halt.end ≡ ends.Failed role → FailsAt S.told S.Disk.told shelf.old shelf.new halt.session role) }
+    ensures device { IfErr result (λ halt. (role : DiskRole) → halt.end ≡ ends.Failed role
+        → FailsAt S.told S.Disk.told shelf.old shelf.new halt.session role) }
     ensures only { IfErr result (λ halt. IsDiskEnd halt.end) }
 {
     let both = take_both(shelf, row.id, new_row.id)?;
@@ -255,11 +273,15 @@ fn migrate_rows<S: Shelf>(
     new_session: u32,
     shelf: &mut S,
 ) -> Result<Counts, Halt>
-    ensures migrates { S.told.tells → S.Disk.told.tells → MigratesSo (S.told.file shelf.old table.now) (S.told.file shelf.old new_table.now)
-        (S.told.disk shelf.old) (S.told.disk shelf.new) (FailsAt S.told S.Disk.told shelf.old shelf.new) session new_session result }
+    ensures migrates { S.told.tells → S.Disk.told.tells
+        → MigratesSo (S.told.file shelf.old table.now) (S.told.file shelf.old new_table.now)
+        (S.told.disk shelf.old) (S.told.disk shelf.new) (FailsAt S.told S.Disk.told shelf.old shelf.new) session
+        new_session result }
     ensures back { S.told.tells → AllAreBack (S.told.disk shelf.old) (S.told.disk shelf.new) }
-    ensures device { IfErr result (λ halt. (role : DiskRole) → halt.end ≡ ends.Failed role → FailsAt S.told S.Disk.told shelf.old shelf.new halt.session role) }
-    ensures read { IfErr result (λ halt. halt.end ≡ ends.Unread → Rose (S.told.faults shelf.old) (S.told.faults shelf.new)) }
+    ensures device { IfErr result (λ halt. (role : DiskRole) → halt.end ≡ ends.Failed role
+        → FailsAt S.told S.Disk.told shelf.old shelf.new halt.session role) }
+    ensures read { IfErr result (λ halt. halt.end ≡ ends.Unread
+        → Rose (S.told.faults shelf.old) (S.told.faults shelf.new)) }
     ensures unwritten { IfErr result (λ halt. halt.end ≡ ends.Unwritten → ⊥) }
     ensures status { IfErr result (λ halt. end_status halt.end ≤ 8) }
 {
@@ -295,10 +317,13 @@ pub fn migrate_session<S: Shelf, O: Sink>(
     shelf: &mut S,
     out: &mut O,
 ) -> CommandEnd
-    ensures ends { S.told.tells → S.Disk.told.tells → EndsSo (Migrates (S.told.file shelf.old table.now) (S.told.file shelf.old new_table.now)
-        (S.told.disk shelf.old) (S.told.disk shelf.new) (FailsAt S.told S.Disk.told shelf.old shelf.new) session new_session) (O.written out.old) (O.written out.new) result }
+    ensures ends { S.told.tells → S.Disk.told.tells
+        → EndsSo (Migrates (S.told.file shelf.old table.now) (S.told.file shelf.old new_table.now)
+        (S.told.disk shelf.old) (S.told.disk shelf.new) (FailsAt S.told S.Disk.told shelf.old shelf.new) session
+        new_session) (O.written out.old) (O.written out.new) result }
     ensures back { S.told.tells → AllAreBack (S.told.disk shelf.old) (S.told.disk shelf.new) }
-    ensures device { (role : DiskRole) → result ≡ ends.Failed role → Rose (S.told.disk_faults shelf.old) (S.told.disk_faults shelf.new) }
+    ensures device { (role : DiskRole) → result ≡ ends.Failed role
+        → Rose (S.told.disk_faults shelf.old) (S.told.disk_faults shelf.new) }
     ensures read { result ≡ ends.Unread → Rose (S.told.faults shelf.old) (S.told.faults shelf.new) }
     ensures unwritten { result ≡ ends.Unwritten → Rose (O.faults out.old) (O.faults out.new) }
     ensures status { end_status result ≤ 8 }

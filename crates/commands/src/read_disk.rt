@@ -53,7 +53,8 @@ pub fn read_disk<S: Shelf>(
     room: &mut [u8],
 ) -> Result<PlainDisk, CommandEnd>
     requires { length room.old ≡ 16777216 }
-    ensures read { IfOk result (λ disk. S.told.tells → IsReadOf (disk_file (S.told.file shelf.old) session role) disk.bytes) }
+    ensures read { IfOk result (λ disk. S.told.tells
+        → IsReadOf (disk_file (S.told.file shelf.old) session role) disk.bytes) }
     ensures calm { IfOk result (λ disk. disk.armed ≡ false) }
     ensures unread { IfErr result (IsUnread role (S.told.faults shelf.old) (S.told.faults shelf.new)) }
     ensures room { length room.new ≡ length room.old }

@@ -100,10 +100,13 @@ fn show_disks<S: Shelf>(
     row: &SessionRow,
 ) -> Result<Vec<u8>, CommandEnd>
     requires lawful { IsLawfulRow row.now }
-    ensures shown { IfOk result (λ text. S.told.tells → S.Disk.told.tells → IsShown (S.told.disk shelf.old) (S.told.disk shelf.new) row.now text.items) }
-    ensures stops { IfErr result (λ end. S.told.tells → S.Disk.told.tells → ShowStops (S.told.disk shelf.old) (S.told.disk shelf.new) row.now end) }
+    ensures shown { IfOk result (λ text. S.told.tells → S.Disk.told.tells
+        → IsShown (S.told.disk shelf.old) (S.told.disk shelf.new) row.now text.items) }
+    ensures stops { IfErr result (λ end. S.told.tells → S.Disk.told.tells
+        → ShowStops (S.told.disk shelf.old) (S.told.disk shelf.new) row.now end) }
     ensures back { S.told.tells → AllAreBack (S.told.disk shelf.old) (S.told.disk shelf.new) }
-    ensures device { (role : DiskRole) → result ≡ Err (ends.Failed role) → FailsAt S.told S.Disk.told shelf.old shelf.new row.now.id role }
+    ensures device { (role : DiskRole) → result ≡ Err (ends.Failed role)
+        → FailsAt S.told S.Disk.told shelf.old shelf.new row.now.id role }
     ensures only { IfErr result IsDiskEnd }
 {
     let disks = match take_disks(shelf, row.id) {
@@ -139,9 +142,11 @@ fn show_row<S: Shelf>(
     shelf: &mut S,
 ) -> Result<Vec<u8>, CommandEnd>
     ensures shows { S.told.tells → S.Disk.told.tells
-        → ShowsSo (λ text. text.items) (S.told.file shelf.old table.now) (S.told.disk shelf.old) (S.told.disk shelf.new) (FailsAt S.told S.Disk.told shelf.old shelf.new) session result }
+        → ShowsSo (λ text. text.items) (S.told.file shelf.old table.now) (S.told.disk shelf.old) (S.told.disk shelf.new)
+        (FailsAt S.told S.Disk.told shelf.old shelf.new) session result }
     ensures back { S.told.tells → AllAreBack (S.told.disk shelf.old) (S.told.disk shelf.new) }
-    ensures device { (role : DiskRole) → result ≡ Err (ends.Failed role) → FailsAt S.told S.Disk.told shelf.old shelf.new session role }
+    ensures device { (role : DiskRole) → result ≡ Err (ends.Failed role)
+        → FailsAt S.told S.Disk.told shelf.old shelf.new session role }
     ensures read { result ≡ Err ends.Unread → Rose (S.told.faults shelf.old) (S.told.faults shelf.new) }
     ensures unwritten { result ≡ Err ends.Unwritten → ⊥ }
     ensures status { IfErr result (λ end. end_status end ≤ 8) }
@@ -161,9 +166,11 @@ pub fn show_session<S: Shelf, O: Sink>(
     out: &mut O,
 ) -> CommandEnd
     ensures ends { S.told.tells → S.Disk.told.tells
-        → EndsSo (Shows (S.told.file shelf.old table.now) (S.told.disk shelf.old) (S.told.disk shelf.new) (FailsAt S.told S.Disk.told shelf.old shelf.new) session) (O.written out.old) (O.written out.new) result }
+        → EndsSo (Shows (S.told.file shelf.old table.now) (S.told.disk shelf.old) (S.told.disk shelf.new)
+        (FailsAt S.told S.Disk.told shelf.old shelf.new) session) (O.written out.old) (O.written out.new) result }
     ensures back { S.told.tells → AllAreBack (S.told.disk shelf.old) (S.told.disk shelf.new) }
-    ensures device { (role : DiskRole) → result ≡ ends.Failed role → Rose (S.told.disk_faults shelf.old) (S.told.disk_faults shelf.new) }
+    ensures device { (role : DiskRole) → result ≡ ends.Failed role
+        → Rose (S.told.disk_faults shelf.old) (S.told.disk_faults shelf.new) }
     ensures read { result ≡ ends.Unread → Rose (S.told.faults shelf.old) (S.told.faults shelf.new) }
     ensures unwritten { result ≡ ends.Unwritten → Rose (O.faults out.old) (O.faults out.new) }
     ensures status { end_status result ≤ 8 }

@@ -10,7 +10,9 @@ ghost use Rattle.commands.specs.CommandEnds.{EndsSo, end_line, end_status};
 ghost use Rattle.commands.specs.Formatting.{IsDiskEnd};
 ghost use Rattle.commands.specs.ReadDisks.{disk_file, AreRead, Holds, IsReadOrNot, refused_recv};
 ghost use Rattle.recovery.specs.Refusals.{refused_disk};
-ghost use Rattle.commands.specs.Telling.{status_line, count_in, TellsStatus, kind, HasPumpCounts, RefusesPump, RefusesRecv, HasCounts, RefusesEach, bytes_in, IsCalm, StopsReading, StopsTelling, AreTold, ReadTo, IsToldLine};
+ghost use Rattle.commands.specs.Telling.{status_line, count_in, TellsStatus, kind, HasPumpCounts, RefusesPump};
+ghost use Rattle.commands.specs.Telling.{RefusesRecv, HasCounts, RefusesEach, bytes_in, IsCalm, StopsReading};
+ghost use Rattle.commands.specs.Telling.{StopsTelling, AreTold, ReadTo, IsToldLine};
 ghost use Rattle.commands.specs.declared.command_end.CommandEnd.TheVariants as ends;
 
 use crate::command_end::{CommandEnd, close, fail, put, put_number};
@@ -107,7 +109,8 @@ fn check_pump(
     requires lawful { IsLawfulRow row.now }
     requires low { low.armed ≡ false }
     requires high { high.armed ≡ false }
-    ensures fine { IfOk result (λ disks. (refused_disk row.now roles.Low low.bytes ≡ None) × (refused_disk row.now roles.High high.bytes ≡ None)) }
+    ensures fine { IfOk result (λ disks. (refused_disk row.now roles.Low low.bytes ≡ None)
+        × (refused_disk row.now roles.High high.bytes ≡ None)) }
     ensures same { IfOk result (λ disks. Holds low.bytes disks.0 × Holds high.bytes disks.1) }
     ensures whole { IfOk result (λ disks. (80 ≤ length disks.0.bytes) × (80 ≤ length disks.1.bytes)) }
     ensures refused { IfErr result (RefusesPump row.now low.bytes high.bytes) }
@@ -171,7 +174,8 @@ fn disks_told(alloc: Global, row: &SessionRow, disks: ReadDisks) -> Result<Told,
     requires low { disks.low.armed ≡ false }
     requires high { disks.high.armed ≡ false }
     requires recv { IsCalm disks.recv }
-    ensures told { IfOk result (λ told. HasCounts row.now disks.low.bytes disks.high.bytes (bytes_in disks.recv) told.accepted told.removed told.received) }
+    ensures told { IfOk result (λ told. HasCounts row.now disks.low.bytes disks.high.bytes (bytes_in disks.recv)
+        told.accepted told.removed told.received) }
     ensures refused { IfErr result (RefusesEach row.now disks.low.bytes disks.high.bytes (bytes_in disks.recv)) }
 {
     let ReadDisks { low, high, recv } = disks;
@@ -197,7 +201,9 @@ fn read_receiver<S: Shelf>(
     room: &mut [u8],
 ) -> Result<Option<PlainDisk>, CommandEnd>
     requires { length room.old ≡ 16777216 }
-    ensures read { IfOk result (λ disk. S.told.tells → IsReadOrNot (Rose (S.told.faults shelf.old) (S.told.faults shelf.new)) (disk_file (S.told.file shelf.old) session roles.Recv) (bytes_in disk)) }
+    ensures read { IfOk result (λ disk. S.told.tells
+        → IsReadOrNot (Rose (S.told.faults shelf.old) (S.told.faults shelf.new)) (disk_file (S.told.file shelf.old)
+        session roles.Recv) (bytes_in disk)) }
     ensures calm { IfOk result IsCalm }
     ensures memory { IfErr result (λ end. end ≡ ends.Memory) }
     ensures room { length room.new ≡ length room.old }
@@ -222,13 +228,15 @@ fn read_over<S: Shelf>(
 ) -> Result<ReadDisks, CommandEnd>
     requires { length room.old ≡ 16777216 }
     ensures read { IfOk result (λ disks. S.told.tells
-        → AreRead (disk_file (S.told.file shelf.old) session) (Rose (S.told.faults shelf.old) (S.told.faults shelf.new)) disks.low.bytes disks.high.bytes (bytes_in disks.recv)) }
+        → AreRead (disk_file (S.told.file shelf.old) session) (Rose (S.told.faults shelf.old) (S.told.faults shelf.new))
+        disks.low.bytes disks.high.bytes (bytes_in disks.recv)) }
     ensures low { IfOk result (λ disks. disks.low.armed ≡ false) }
     ensures high { IfOk result (λ disks. disks.high.armed ≡ false) }
     ensures recv { IfOk result (λ disks. IsCalm disks.recv) }
     ensures stops { IfErr result (λ end. S.told.tells → StopsReading (disk_file (S.told.file shelf.old) session) end) }
     ensures only { IfErr result IsDiskEnd }
-    ensures device { (role : DiskRole) → result ≡ Err (ends.Failed role) → Rose (S.told.faults shelf.old) (S.told.faults shelf.new) }
+    ensures device { (role : DiskRole) → result ≡ Err (ends.Failed role)
+        → Rose (S.told.faults shelf.old) (S.told.faults shelf.new) }
     ensures disks { S.told.disk shelf.new ≡ S.told.disk shelf.old }
 {
     let high = read_disk(alloc, shelf, session, Role::High, room)?;
@@ -240,13 +248,15 @@ fn read_over<S: Shelf>(
 // The disks of a session as their files stand.
 fn read_disks<S: Shelf>(alloc: Global, shelf: &mut S, session: u32) -> Result<ReadDisks, CommandEnd>
     ensures read { IfOk result (λ disks. S.told.tells
-        → AreRead (disk_file (S.told.file shelf.old) session) (Rose (S.told.faults shelf.old) (S.told.faults shelf.new)) disks.low.bytes disks.high.bytes (bytes_in disks.recv)) }
+        → AreRead (disk_file (S.told.file shelf.old) session) (Rose (S.told.faults shelf.old) (S.told.faults shelf.new))
+        disks.low.bytes disks.high.bytes (bytes_in disks.recv)) }
     ensures low { IfOk result (λ disks. disks.low.armed ≡ false) }
     ensures high { IfOk result (λ disks. disks.high.armed ≡ false) }
     ensures recv { IfOk result (λ disks. IsCalm disks.recv) }
     ensures stops { IfErr result (λ end. S.told.tells → StopsReading (disk_file (S.told.file shelf.old) session) end) }
     ensures only { IfErr result IsDiskEnd }
-    ensures device { (role : DiskRole) → result ≡ Err (ends.Failed role) → Rose (S.told.faults shelf.old) (S.told.faults shelf.new) }
+    ensures device { (role : DiskRole) → result ≡ Err (ends.Failed role)
+        → Rose (S.told.faults shelf.old) (S.told.faults shelf.new) }
     ensures disks { S.told.disk shelf.new ≡ S.told.disk shelf.old }
 {
     let Some(mut room) = file_room(alloc) else {
@@ -264,11 +274,14 @@ fn row_told<S: Shelf>(
 ) -> Result<Told, CommandEnd>
     requires lawful { IsLawfulRow row.now }
     ensures told { IfOk result (λ told. S.told.tells
-        → AreTold (disk_file (S.told.file shelf.old) session) (Rose (S.told.faults shelf.old) (S.told.faults shelf.new)) row.now told.accepted told.removed told.received) }
+        → AreTold (disk_file (S.told.file shelf.old) session) (Rose (S.told.faults shelf.old) (S.told.faults shelf.new))
+        row.now told.accepted told.removed told.received) }
     ensures stops { IfErr result (λ end. S.told.tells
-        → StopsTelling (disk_file (S.told.file shelf.old) session) (Rose (S.told.faults shelf.old) (S.told.faults shelf.new)) row.now end) }
+        → StopsTelling (disk_file (S.told.file shelf.old) session) (Rose (S.told.faults shelf.old)
+        (S.told.faults shelf.new)) row.now end) }
     ensures only { IfErr result IsDiskEnd }
-    ensures device { (role : DiskRole) → result ≡ Err (ends.Failed role) → Rose (S.told.faults shelf.old) (S.told.faults shelf.new) }
+    ensures device { (role : DiskRole) → result ≡ Err (ends.Failed role)
+        → Rose (S.told.faults shelf.old) (S.told.faults shelf.new) }
     ensures disks { S.told.disk shelf.new ≡ S.told.disk shelf.old }
 {
     match read_disks(alloc, shelf, session) {
@@ -286,11 +299,14 @@ fn row_text<S: Shelf>(
 ) -> Result<ArrayVec<u8, 256>, CommandEnd>
     requires lawful { IsLawfulRow row.now }
     ensures text { IfOk result (λ line. S.told.tells
-        → ReadTo (disk_file (S.told.file shelf.old) session) (Rose (S.told.faults shelf.old) (S.told.faults shelf.new)) (IsToldLine row.now session line.items)) }
+        → ReadTo (disk_file (S.told.file shelf.old) session) (Rose (S.told.faults shelf.old) (S.told.faults shelf.new))
+        (IsToldLine row.now session line.items)) }
     ensures stops { IfErr result (λ end. S.told.tells
-        → StopsTelling (disk_file (S.told.file shelf.old) session) (Rose (S.told.faults shelf.old) (S.told.faults shelf.new)) row.now end) }
+        → StopsTelling (disk_file (S.told.file shelf.old) session) (Rose (S.told.faults shelf.old)
+        (S.told.faults shelf.new)) row.now end) }
     ensures only { IfErr result IsDiskEnd }
-    ensures device { (role : DiskRole) → result ≡ Err (ends.Failed role) → Rose (S.told.faults shelf.old) (S.told.faults shelf.new) }
+    ensures device { (role : DiskRole) → result ≡ Err (ends.Failed role)
+        → Rose (S.told.faults shelf.old) (S.told.faults shelf.new) }
     ensures disks { S.told.disk shelf.new ≡ S.told.disk shelf.old }
 {
     match row_told(alloc, row, session, shelf) {
@@ -311,10 +327,13 @@ fn status_text<S: Shelf>(
     shelf: &mut S,
 ) -> Result<ArrayVec<u8, 256>, CommandEnd>
     ensures text { IfOk result (λ line. S.told.tells
-        → TellsStatus (S.told.file shelf.old table.now) (disk_file (S.told.file shelf.old) session) (Rose (S.told.faults shelf.old) (S.told.faults shelf.new)) session ends.Done line.items) }
+        → TellsStatus (S.told.file shelf.old table.now) (disk_file (S.told.file shelf.old) session)
+        (Rose (S.told.faults shelf.old) (S.told.faults shelf.new)) session ends.Done line.items) }
     ensures stops { IfErr result (λ end. S.told.tells
-        → TellsStatus (S.told.file shelf.old table.now) (disk_file (S.told.file shelf.old) session) (Rose (S.told.faults shelf.old) (S.told.faults shelf.new)) session end (end_line session end)) }
-    ensures device { (role : DiskRole) → result ≡ Err (ends.Failed role) → Rose (S.told.faults shelf.old) (S.told.faults shelf.new) }
+        → TellsStatus (S.told.file shelf.old table.now) (disk_file (S.told.file shelf.old) session)
+        (Rose (S.told.faults shelf.old) (S.told.faults shelf.new)) session end (end_line session end)) }
+    ensures device { (role : DiskRole) → result ≡ Err (ends.Failed role)
+        → Rose (S.told.faults shelf.old) (S.told.faults shelf.new) }
     ensures unread { result ≡ Err ends.Unread → Rose (S.told.faults shelf.old) (S.told.faults shelf.new) }
     ensures unwritten { result ≡ Err ends.Unwritten → ⊥ }
     ensures status { IfErr result (λ end. end_status end ≤ 8) }
@@ -336,9 +355,12 @@ pub fn tell_status<S: Shelf, O: Sink>(
     shelf: &mut S,
     out: &mut O,
 ) -> CommandEnd
-    ensures ends { S.told.tells → EndsSo (TellsStatus (S.told.file shelf.old table.now) (disk_file (S.told.file shelf.old) session) (Rose (S.told.faults shelf.old) (S.told.faults shelf.new)) session) (O.written out.old) (O.written out.new) result }
+    ensures ends { S.told.tells → EndsSo (TellsStatus (S.told.file shelf.old table.now)
+        (disk_file (S.told.file shelf.old) session) (Rose (S.told.faults shelf.old) (S.told.faults shelf.new)) session)
+        (O.written out.old) (O.written out.new) result }
     ensures disks { S.told.disk shelf.new ≡ S.told.disk shelf.old }
-    ensures device { (role : DiskRole) → result ≡ ends.Failed role → Rose (S.told.faults shelf.old) (S.told.faults shelf.new) }
+    ensures device { (role : DiskRole) → result ≡ ends.Failed role
+        → Rose (S.told.faults shelf.old) (S.told.faults shelf.new) }
     ensures read { result ≡ ends.Unread → Rose (S.told.faults shelf.old) (S.told.faults shelf.new) }
     ensures unwritten { result ≡ ends.Unwritten → Rose (O.faults out.old) (O.faults out.new) }
     ensures status { end_status result ≤ 8 }

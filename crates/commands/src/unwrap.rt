@@ -7,7 +7,8 @@ ghost use Rattle.pump_frame.specs.Counts.{Rose};
 ghost use Rattle.pump_frame.specs.Rows.{IsLawfulRow};
 ghost use Rattle.script_replay.specs.Shelves.{AllAreBack, ReadsAlike, reading_at};
 ghost use Rattle.commands.specs.LentDisks.{RecvFailsAt};
-ghost use Rattle.commands.specs.Unwrapping.{IsUnwrapStatus, Unwraps, UnwrapsFrom, UnwrapsOn, end_of_gather, unwrap_status};
+ghost use Rattle.commands.specs.Unwrapping.{IsUnwrapStatus, Unwraps, UnwrapsFrom, UnwrapsOn, end_of_gather};
+ghost use Rattle.commands.specs.Unwrapping.{unwrap_status};
 ghost use Rattle.commands.specs.declared.command_end.CommandEnd.TheVariants as ends;
 ghost use Rattle.commands.specs.declared.unwrap.UnwrapEnd.TheVariants.{Stopped};
 
@@ -84,9 +85,11 @@ fn end_of_gather(gathered: Result<Gathered, GatherFault>) -> UnwrapEnd
 fn unwrap_on<D: Disk, O: Sink>(row: &SessionRow, disk: D, out: &mut O) -> Unwrapped<D>
     requires lawful { IsLawfulRow row.now }
     requires long { 9 ≤ row.now.message }
-    ensures unwraps { D.told.tells → UnwrapsOn row.now (D.told.reading disk) (O.written out.old) (O.written out.new) result.end }
+    ensures unwraps { D.told.tells → UnwrapsOn row.now (D.told.reading disk) (O.written out.old) (O.written out.new)
+        result.end }
     ensures same { D.told.tells → D.told.reading result.disk ≡ D.told.reading disk }
-    ensures device { (role : DiskRole) → result.end ≡ Stopped (ends.Failed role) → Rose (D.told.count disk) (D.told.count result.disk) }
+    ensures device { (role : DiskRole) → result.end ≡ Stopped (ends.Failed role)
+        → Rose (D.told.count disk) (D.told.count result.disk) }
     ensures role { (role : DiskRole) → result.end ≡ Stopped (ends.Failed role) → role ≡ roles.Recv }
     ensures status { IsUnwrapStatus (unwrap_status result.end) }
     ensures unread { result.end ≡ Stopped ends.Unread → ⊥ }
@@ -112,10 +115,13 @@ fn unwrap_on<D: Disk, O: Sink>(row: &SessionRow, disk: D, out: &mut O) -> Unwrap
 // Over the row of the session.
 fn unwrap_row<S: Shelf, O: Sink>(row: &SessionRow, shelf: &mut S, out: &mut O) -> UnwrapEnd
     requires lawful { IsLawfulRow row.now }
-    ensures unwraps { S.told.tells → S.Disk.told.tells → UnwrapsFrom row.now (reading_at (S.told.disk shelf.old) row.now.id roles.Recv) (O.written out.old) (O.written out.new) result }
+    ensures unwraps { S.told.tells → S.Disk.told.tells
+        → UnwrapsFrom row.now (reading_at (S.told.disk shelf.old) row.now.id roles.Recv) (O.written out.old)
+        (O.written out.new) result }
     ensures alike { S.told.tells → S.Disk.told.tells → ReadsAlike (S.told.disk shelf.old) (S.told.disk shelf.new) }
     ensures back { S.told.tells → AllAreBack (S.told.disk shelf.old) (S.told.disk shelf.new) }
-    ensures device { (role : DiskRole) → result ≡ Stopped (ends.Failed role) → RecvFailsAt S.told S.Disk.told shelf.old shelf.new row.now.id role }
+    ensures device { (role : DiskRole) → result ≡ Stopped (ends.Failed role)
+        → RecvFailsAt S.told S.Disk.told shelf.old shelf.new row.now.id role }
     ensures status { IsUnwrapStatus (unwrap_status result) }
     ensures unread { result ≡ Stopped ends.Unread → ⊥ }
     ensures unwritten { result ≡ Stopped ends.Unwritten → Rose (O.faults out.old) (O.faults out.new) }
@@ -151,9 +157,11 @@ pub fn unwrap_session<S: Shelf, O: Sink>(
     out: &mut O,
 ) -> UnwrapEnd
     ensures unwraps { S.told.tells → S.Disk.told.tells
-        → Unwraps (S.told.file shelf.old table.now) (S.told.disk shelf.old) (S.told.disk shelf.new) (RecvFailsAt S.told S.Disk.told shelf.old shelf.new) session (O.written out.old) (O.written out.new) result }
+        → Unwraps (S.told.file shelf.old table.now) (S.told.disk shelf.old) (S.told.disk shelf.new)
+        (RecvFailsAt S.told S.Disk.told shelf.old shelf.new) session (O.written out.old) (O.written out.new) result }
     ensures back { S.told.tells → AllAreBack (S.told.disk shelf.old) (S.told.disk shelf.new) }
-    ensures device { (role : DiskRole) → result ≡ Stopped (ends.Failed role) → RecvFailsAt S.told S.Disk.told shelf.old shelf.new session role }
+    ensures device { (role : DiskRole) → result ≡ Stopped (ends.Failed role)
+        → RecvFailsAt S.told S.Disk.told shelf.old shelf.new session role }
     ensures read { result ≡ Stopped ends.Unread → Rose (S.told.faults shelf.old) (S.told.faults shelf.new) }
     ensures unwritten { result ≡ Stopped ends.Unwritten → Rose (O.faults out.old) (O.faults out.new) }
     ensures status { IsUnwrapStatus (unwrap_status result) }

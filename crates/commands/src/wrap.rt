@@ -7,7 +7,8 @@ ghost use Rattle.pump_frame.specs.Rows.{IsLawfulRow};
 ghost use Rattle.pump_wrapper.specs.Cutting.{Gave};
 ghost use Rattle.script_replay.specs.Failing.{FailsAt};
 ghost use Rattle.script_replay.specs.Shelves.{AllAreBack};
-ghost use Rattle.commands.specs.Wrapping.{IsSendStatus, Wraps, WrapsAll, WrapsFrom, WrapsOn, WritesSend, end_of_stop, end_of_wrap, is_long, send_line, send_status};
+ghost use Rattle.commands.specs.Wrapping.{IsSendStatus, Wraps, WrapsAll, WrapsFrom, WrapsOn, WritesSend, end_of_stop};
+ghost use Rattle.commands.specs.Wrapping.{end_of_wrap, is_long, send_line, send_status};
 ghost use Rattle.commands.specs.declared.command_end.CommandEnd.TheVariants as ends;
 ghost use Rattle.commands.specs.declared.wrap.SendEnd.TheVariants.{Stopped};
 
@@ -95,9 +96,11 @@ fn wrap_disks<S: Shelf, I: Source>(
 ) -> SendEnd
     requires lawful { IsLawfulRow row.now }
     requires long { 9 ≤ row.now.message }
-    ensures wraps { S.told.tells → S.Disk.told.tells → WrapsOn (S.told.disk shelf.old) (S.told.disk shelf.new) row.now (I.left file.old) (I.left file.new) result }
+    ensures wraps { S.told.tells → S.Disk.told.tells
+        → WrapsOn (S.told.disk shelf.old) (S.told.disk shelf.new) row.now (I.left file.old) (I.left file.new) result }
     ensures back { S.told.tells → AllAreBack (S.told.disk shelf.old) (S.told.disk shelf.new) }
-    ensures device { (role : DiskRole) → result ≡ Stopped (ends.Failed role) → FailsAt S.told S.Disk.told shelf.old shelf.new row.now.id role }
+    ensures device { (role : DiskRole) → result ≡ Stopped (ends.Failed role)
+        → FailsAt S.told S.Disk.told shelf.old shelf.new row.now.id role }
     ensures read { result ≡ Stopped ends.Unread → Rose (I.faults file.old) (I.faults file.new) }
     ensures gave { Gave 0 (I.left file.old) (I.left file.new) (is_long result) }
     ensures unwritten { result ≡ Stopped ends.Unwritten → ⊥ }
@@ -124,9 +127,11 @@ fn wrap_row<S: Shelf, I: Source>(
     file: &mut I,
 ) -> SendEnd
     requires lawful { IsLawfulRow row.now }
-    ensures wraps { S.told.tells → S.Disk.told.tells → WrapsFrom (S.told.disk shelf.old) (S.told.disk shelf.new) row.now (I.left file.old) (I.left file.new) result }
+    ensures wraps { S.told.tells → S.Disk.told.tells → WrapsFrom (S.told.disk shelf.old) (S.told.disk shelf.new) row.now
+        (I.left file.old) (I.left file.new) result }
     ensures back { S.told.tells → AllAreBack (S.told.disk shelf.old) (S.told.disk shelf.new) }
-    ensures device { (role : DiskRole) → result ≡ Stopped (ends.Failed role) → FailsAt S.told S.Disk.told shelf.old shelf.new row.now.id role }
+    ensures device { (role : DiskRole) → result ≡ Stopped (ends.Failed role)
+        → FailsAt S.told S.Disk.told shelf.old shelf.new row.now.id role }
     ensures read { result ≡ Stopped ends.Unread → Rose (I.faults file.old) (I.faults file.new) }
     ensures gave { Gave 0 (I.left file.old) (I.left file.new) (is_long result) }
     ensures unwritten { result ≡ Stopped ends.Unwritten → ⊥ }
@@ -152,10 +157,13 @@ fn wrap_in_table<S: Shelf, I: Source>(
     file: &mut I,
 ) -> SendEnd
     ensures wraps { S.told.tells → S.Disk.told.tells
-        → Wraps (S.told.faults shelf.old) (S.told.faults shelf.new) (S.told.file shelf.old table.now) (S.told.disk shelf.old) (S.told.disk shelf.new) session (I.left file.old) (I.left file.new) result }
+        → Wraps (S.told.faults shelf.old) (S.told.faults shelf.new) (S.told.file shelf.old table.now)
+        (S.told.disk shelf.old) (S.told.disk shelf.new) session (I.left file.old) (I.left file.new) result }
     ensures back { S.told.tells → AllAreBack (S.told.disk shelf.old) (S.told.disk shelf.new) }
-    ensures device { (role : DiskRole) → result ≡ Stopped (ends.Failed role) → FailsAt S.told S.Disk.told shelf.old shelf.new session role }
-    ensures read { result ≡ Stopped ends.Unread → Rose (S.told.faults shelf.old) (S.told.faults shelf.new) ⊎ Rose (I.faults file.old) (I.faults file.new) }
+    ensures device { (role : DiskRole) → result ≡ Stopped (ends.Failed role)
+        → FailsAt S.told S.Disk.told shelf.old shelf.new session role }
+    ensures read { result ≡ Stopped ends.Unread → Rose (S.told.faults shelf.old) (S.told.faults shelf.new)
+        ⊎ Rose (I.faults file.old) (I.faults file.new) }
     ensures gave { Gave 0 (I.left file.old) (I.left file.new) (is_long result) }
     ensures unwritten { result ≡ Stopped ends.Unwritten → ⊥ }
     ensures status { IsSendStatus (send_status result) }
@@ -194,11 +202,15 @@ pub fn wrap_session<S: Shelf, I: Source, O: Sink>(
     out: &mut O,
 ) -> SendEnd
     ensures ends { S.told.tells → S.Disk.told.tells
-        → WritesSend (WrapsAll (S.told.faults shelf.old) (S.told.faults shelf.new) (S.told.file shelf.old table.now) (S.told.disk shelf.old) (S.told.disk shelf.new) (FailsAt S.told S.Disk.told shelf.old shelf.new) session (I.left file.old) (I.left file.new)) session
+        → WritesSend (WrapsAll (S.told.faults shelf.old) (S.told.faults shelf.new) (S.told.file shelf.old table.now)
+        (S.told.disk shelf.old) (S.told.disk shelf.new) (FailsAt S.told S.Disk.told shelf.old shelf.new) session
+        (I.left file.old) (I.left file.new)) session
         (O.written out.old) (O.written out.new) result }
     ensures back { S.told.tells → AllAreBack (S.told.disk shelf.old) (S.told.disk shelf.new) }
-    ensures device { (role : DiskRole) → result ≡ Stopped (ends.Failed role) → FailsAt S.told S.Disk.told shelf.old shelf.new session role }
-    ensures read { result ≡ Stopped ends.Unread → Rose (S.told.faults shelf.old) (S.told.faults shelf.new) ⊎ Rose (I.faults file.old) (I.faults file.new) }
+    ensures device { (role : DiskRole) → result ≡ Stopped (ends.Failed role)
+        → FailsAt S.told S.Disk.told shelf.old shelf.new session role }
+    ensures read { result ≡ Stopped ends.Unread → Rose (S.told.faults shelf.old) (S.told.faults shelf.new)
+        ⊎ Rose (I.faults file.old) (I.faults file.new) }
     ensures gave { (result ≡ Stopped ends.Unwritten → ⊥) → Gave 0 (I.left file.old) (I.left file.new) (is_long result) }
     ensures unwritten { result ≡ Stopped ends.Unwritten → Rose (O.faults out.old) (O.faults out.new) }
     ensures status { IsSendStatus (send_status result) }

@@ -31,6 +31,8 @@ pub fn delay(average: u32, word: u32, longest: u32) -> u32
 /// rounded down: at most 1/512 of it in the table, and less than one in each delay.
 pub fn delays_sum(average: u32)
     requires { average ≤ 10 ^ 9 }
-    ensures most { (words : List ℕ) (longest : ℕ) → IsOfEachClass words → AreUncut average longest words → sum (map (λ word. delay_of average word longest) words) ≤ 256 * average }
-    ensures least { (words : List ℕ) (longest : ℕ) → IsOfEachClass words → AreUncut average longest words → 512 * 256 * average ≤ 512 * sum (map (λ word. delay_of average word longest) words) + average + 512 * 256 }
+    ensures most { (words : List ℕ) (longest : ℕ) → IsOfEachClass words → AreUncut average longest words
+        → sum (map (λ word. delay_of average word longest) words) ≤ 256 * average }
+    ensures least { (words : List ℕ) (longest : ℕ) → IsOfEachClass words → AreUncut average longest words
+        → 512 * 256 * average ≤ 512 * sum (map (λ word. delay_of average word longest) words) + average + 512 * 256 }
 {}

@@ -40,7 +40,8 @@ impl Words for StreamWords {
     ghost gives = { λ s words. AreWords s.key s.stream s.word_pos words };
 
     fn word(&mut self) -> u32
-        ensures gives { Draws (AreWords self.old.key self.old.stream self.old.word_pos) (AreWords self.new.key self.new.stream self.new.word_pos) (result ∷ []) }
+        ensures gives { Draws (AreWords self.old.key self.old.stream self.old.word_pos)
+            (AreWords self.new.key self.new.stream self.new.word_pos) (result ∷ []) }
         ensures word { result ≡ word_at 10 self.old.key self.old.stream self.old.word_pos }
         ensures next { self.new ≡ record self.old { word_pos = (self.old.word_pos + 1) % 2 ^ 68 } }
     {

@@ -1,5 +1,6 @@
 -- What a MemShelf tells: the disks on it, those that are out, and its files.
-use Rattle.std.specs.Prelude.{ℕ, Bool, not, if◌then◌else◌, List, [], ◌∷◌, ◌++◌, filter, find, Option, None, Some, option_map, is_some, String, Vec, string_bytes}
+use Rattle.std.specs.Prelude.{ℕ, Bool, not, if◌then◌else◌, List, [], ◌∷◌, ◌++◌, filter, find, Option, None, Some}
+use Rattle.std.specs.Prelude.{option_map, is_some, String, Vec, string_bytes}
 use Rattle.std.specs.Str.{bytes_eq}
 use Rattle.std.specs.declared.alloc.Global.{Global}
 use Rattle.pump_frame.specs.Counts.{raised}
@@ -29,8 +30,9 @@ without name = filter (λ entry. not (has_name name entry))
 abbrev pub file_of : List ℕ → List (String Global × Vec ℕ Global) → Option (List ℕ)
 file_of name files = option_map (λ file. file.1.items) (find (λ file. bytes_eq (string_bytes file.0) name) files)
 
--- What a contract sees of a MemShelf: the disks handed in or put back; those that are out, with the counts that they had when they
--- were given; the files; the calls of `whole` and `disk` made, the numbers of those that fail, and the two counts.
+-- What a contract sees of a MemShelf: the disks handed in or put back; those that are out, with the counts that they
+-- had when they were given; the files; the calls of `whole` and `disk` made, the numbers of those that fail, and the
+-- two counts.
 pub record MemoryShelf (D : Type 0) : Type 0 where
   pub disks : List (DiskName × D)
   pub outs : List (DiskName × ℕ)

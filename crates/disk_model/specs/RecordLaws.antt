@@ -15,8 +15,17 @@ use Rattle.disk_model.specs.declared.record.Entry.TheVariants.{Write, Missed, Sy
 -- what a read gives is an image
 pub replay_image : (start : Held) (log : List Entry) → IsImage start log (replay start log)
 replay_image start [] = refl
-replay_image start (Write at bytes ∷ older) = (replay start older, replay_image start older, written_torn start.room (replay start older) at bytes)
-replay_image start (Missed at bytes ∷ older) = (replay start older, replay_image start older, torn_same at (length bytes) (replay start older))
+replay_image start (Write at bytes ∷ older) = (
+  replay start older,
+  replay_image start older,
+  written_torn start.room
+      (replay start older) at bytes,
+)
+replay_image start (Missed at bytes ∷ older) = (
+  replay start older,
+  replay_image start older,
+  torn_same at (length bytes) (replay start older),
+)
 replay_image start (Sync ∷ older) = refl
 
 pub counts_now : (start : Held) (log : List Entry) (t : ℕ) (c : List ℕ) → IsImage start log c → WasImage start log t c
@@ -28,17 +37,28 @@ only_now start [] c was = was
 only_now start (e ∷ older) c (inl is) = is
 only_now start (e ∷ older) c (inr earlier) = absurd (omega (arith, earlier.0))
 
-put_as_torn : (outcome : Outcome) (room : ℕ) (bytes old : List ℕ) (at : ℕ) → Torn at (length bytes) old (put_as outcome room bytes old at)
+put_as_torn : (outcome : Outcome) (room : ℕ) (bytes old : List ℕ) (at : ℕ)
+    → Torn at (length bytes) old (put_as outcome room bytes old at)
 put_as_torn Old room bytes old at = torn_same at (length bytes) old
 put_as_torn New room bytes old at = written_torn room old at bytes
 put_as_torn (Fill b) room bytes old at =
-    subst (λ (n : ℕ). Torn at n old (written room old at (replicate (length bytes) b))) (length-replicate (length bytes) b) (written_torn room old at (replicate (length bytes) b))
+    subst (λ (n : ℕ). Torn at n old (written room old at (replicate (length bytes) b))) (length-replicate (length bytes)
+    b) (written_torn room old at (replicate (length bytes) b))
 
 -- what a crash of any outcome leaves is an image
-pub crashed_image : (outcome : Outcome) (start : Held) (log : List Entry) → IsImage start log (crashed outcome start log)
+pub crashed_image : (outcome : Outcome) (start : Held) (log : List Entry)
+    → IsImage start log (crashed outcome start log)
 crashed_image outcome start [] = refl
-crashed_image outcome start (Write at bytes ∷ older) =
-    (crashed outcome start older, crashed_image outcome start older, put_as_torn outcome start.room bytes (crashed outcome start older) at)
-crashed_image outcome start (Missed at bytes ∷ older) =
-    (crashed outcome start older, crashed_image outcome start older, put_as_torn outcome start.room bytes (crashed outcome start older) at)
+crashed_image outcome start (Write at bytes ∷ older) = (
+  crashed outcome start older,
+  crashed_image outcome start older,
+  put_as_torn outcome start.room bytes
+      (crashed outcome start older) at,
+)
+crashed_image outcome start (Missed at bytes ∷ older) = (
+  crashed outcome start older,
+  crashed_image outcome start older,
+  put_as_torn outcome start.room bytes
+      (crashed outcome start older) at,
+)
 crashed_image outcome start (Sync ∷ older) = refl

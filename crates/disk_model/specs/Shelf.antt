@@ -1,11 +1,13 @@
 -- What a shelf tells of its disks and its files, and how its calls move that.
-use Rattle.std.specs.Prelude.{◌≡◌, ℕ, ◌≤◌, nat_le, if◌then◌else◌, List, [], ◌++◌, length, take, drop, Option, None, Some, Result, Err}
+use Rattle.std.specs.Prelude.{◌≡◌, ℕ, ◌≤◌, nat_le, if◌then◌else◌, List, [], ◌++◌, length, take, drop, Option, None}
+use Rattle.std.specs.Prelude.{Some, Result, Err}
 use Rattle.pump_frame.specs.Counts.{raised, Rose}
 use Rattle.disk_model.specs.declared.name.DiskName.{DiskName}
 use Rattle.disk_model.specs.declared.shelf.ShelfFault.{ShelfFault}
 use Rattle.disk_model.specs.declared.shelf.ShelfFault.TheVariants.{Failed}
 
--- Where the disk of a name is: on the shelf, and what it reads; out, and how often it had failed when it was given; or nowhere yet.
+-- Where the disk of a name is: on the shelf, and what it reads; out, and how often it had failed when it was given;
+-- or nowhere yet.
 pub data Whereabouts : Type 0 where
   OnShelf : (reading : List ℕ) → Whereabouts
   Out : (given : ℕ) → Whereabouts
@@ -36,7 +38,8 @@ reading_given (OnShelf reading) = Some reading
 reading_given (Out given) = None
 reading_given Nowhere = Some []
 
--- the count of the shelf after a disk came back: one more where the disk's own count rose while it was out, or stands at its greatest value
+-- the count of the shelf after a disk came back: one more where the disk's own count rose while it was out, or stands
+-- at its greatest value
 abbrev pub count_when_back : Whereabouts → ℕ → ℕ → ℕ
 count_when_back (OnShelf reading) now count = count
 count_when_back (Out given) now count = if nat_le (raised given) now then raised count else count

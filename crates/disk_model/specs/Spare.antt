@@ -13,7 +13,8 @@ pub record HasSpare (room : ℕ) (buffer : Vec ℕ Global) : Type 0 where
   pub takes : room ≤ vec_capacity buffer
 
 -- what is read is what the record gives, and each call that the record still takes finds its memory
-pub record IsKept (start current made : Held) (log : VecDeque Entry Global) (spare : Vec (Vec ℕ Global) Global) (left : ℕ) : Type 0 where
+pub record IsKept (start current made : Held) (log : VecDeque Entry Global) (spare : Vec (Vec ℕ Global) Global)
+    (left : ℕ) : Type 0 where
   pub replayed : current.bytes ≡ replay start log.items
   pub current_room : current.room ≡ start.room
   pub made_room : made.room ≡ start.room

@@ -1,5 +1,6 @@
 // The bytes of a disk in memory, which may reach up to a room.
-ghost use Rattle.std.specs.Prelude.{◌≡◌, ◌+◌, ◌≤◌, ◌++◌, [], length, take, drop, replicate, IfOk, vec_len, vec_capacity};
+ghost use Rattle.std.specs.Prelude.{◌≡◌, ◌+◌, ◌≤◌, ◌++◌, [], length, take, drop, replicate, IfOk, vec_len};
+ghost use Rattle.std.specs.Prelude.{vec_capacity};
 ghost use Rattle.disk_model.specs.Contents.{Held, put_at};
 ghost use Rattle.disk_model.specs.Written.{written};
 

@@ -1,6 +1,7 @@
 // The calls of a disk, and what they promise.
 ghost use Rattle.std.specs.Prelude.{◌≡◌, ◌+◌, ◌≤◌, length, take, drop, OnOk, IfOk, OnErr, ⊤};
-ghost use Rattle.disk_model.specs.Disk.{Meaning, Moves, Same, Torn, IsWritten, Settled, KeepsImages, Answers, FailsPast};
+ghost use Rattle.disk_model.specs.Disk.{Meaning, Moves, Same, Torn, IsWritten, Settled, KeepsImages, Answers};
+ghost use Rattle.disk_model.specs.Disk.{FailsPast};
 
 /// A call of a disk failed; its count rose, or stands at its greatest value.
 #[derive(Clone, Copy, Debug, PartialEq, Eq)]

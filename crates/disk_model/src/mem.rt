@@ -1,5 +1,6 @@
 // A disk in memory that keeps a record of what happened to it.
-ghost use Rattle.std.specs.Prelude.{◌≡◌, ◌+◌, ◌-◌, ◌<◌, ◌≤◌, ◌↔◌, true, false, [], ◌∷◌, length, ⊤, take, drop, Contains, IsTrue, IfOk, IsOk, IsErr, OnOk, OnErr, is_ok};
+ghost use Rattle.std.specs.Prelude.{◌≡◌, ◌+◌, ◌-◌, ◌<◌, ◌≤◌, ◌↔◌, true, false, [], ◌∷◌, length, ⊤, take, drop};
+ghost use Rattle.std.specs.Prelude.{Contains, IsTrue, IfOk, IsOk, IsErr, OnOk, OnErr, is_ok};
 ghost use Rattle.pump_frame.specs.Counts.{raised};
 ghost use Rattle.disk_model.specs.Disk.{Moves, Same, Torn, IsWritten, Settled, KeepsImages, Answers, FailsPast};
 ghost use Rattle.disk_model.specs.Mem.{Memory, mem_meaning, mem_reading, takes, Called, Logs, LogsNothing};

@@ -1,10 +1,14 @@
 // A shelf in memory.
-ghost use Rattle.std.specs.Prelude.{◌≡◌, ◌+◌, ◌≤◌, ◌↔◌, ◌⊎◌, ◌++◌, [], take, drop, length, Contains, None, Some, Err, IfOk, OnOk, OnErr, IfSome, IsTrue, find, position, option_copied, vec_capacity, vec_len};
+ghost use Rattle.std.specs.Prelude.{◌≡◌, ◌+◌, ◌≤◌, ◌↔◌, ◌⊎◌, ◌++◌, [], take, drop, length, Contains, None, Some, Err};
+ghost use Rattle.std.specs.Prelude.{IfOk, OnOk, OnErr, IfSome, IsTrue, find, position, option_copied, vec_capacity};
+ghost use Rattle.std.specs.Prelude.{vec_len};
 ghost use Rattle.pump_frame.specs.Counts.{raised};
-ghost use Rattle.disk_model.specs.Shelf.{Out, OnShelf, IsOut, FailsBy, LeavesOthers, ReadsFile, reading_given, count_when_back};
+ghost use Rattle.disk_model.specs.Shelf.{Out, OnShelf, IsOut, FailsBy, LeavesOthers, ReadsFile, reading_given};
+ghost use Rattle.disk_model.specs.Shelf.{count_when_back};
 ghost use Rattle.disk_model.specs.ShelfCalls.{ReadsWhole, TakesDisk};
 ghost use Rattle.disk_model.specs.declared.shelf.ShelfFault.TheVariants.{Failed, Memory};
-ghost use Rattle.disk_model.specs.MemShelf.{MemoryShelf, mem_holdings, has_name, under, without, without_first, file_of, home_of, with_call_made, with_disk_out, with_disk_home};
+ghost use Rattle.disk_model.specs.MemShelf.{MemoryShelf, mem_holdings, has_name, under, without, without_first};
+ghost use Rattle.disk_model.specs.MemShelf.{file_of, home_of, with_call_made, with_disk_out, with_disk_home};
 
 use crate::disk::Disk;
 use crate::name::DiskName;
@@ -93,7 +97,7 @@ fn count_when_back(given: u64, now: u64, count: u64) -> u64
 }
 
 // Puts as many bytes as fit at the start.
-fn put_front(into: &mut [u8], bytes: &[u8])
+fn put_prefix(into: &mut [u8], bytes: &[u8])
     ensures { into.new ≡ take (length into.old) bytes.now ++ drop (length bytes.now) into.old }
 {
     let count = bytes.len().min(into.len());
@@ -178,7 +182,7 @@ impl<D: Disk> MemShelf<D> {
         }
         match self.file(name) {
             Some(bytes) => {
-                put_front(into, bytes);
+                put_prefix(into, bytes);
                 Ok(bytes.len() as u64)
             }
             None => {
@@ -275,7 +279,7 @@ impl<D: Disk> Shelf for MemShelf<D> {
         };
         self.disk_faults = count_when_back(given, disk.faults(), self.disk_faults);
         forget(&mut self.outs, name);
-        // In front of any other disk that was handed in under the name.
+        // In prefix of any other disk that was handed in under the name.
         self.disks.insert(0, (name, disk)).unwrap();
     }
 

@@ -1,5 +1,6 @@
 // A disk in memory whose next call can be made to fail.
-ghost use Rattle.std.specs.Prelude.{◌≡◌, ◌+◌, ◌≤◌, true, false, [], length, max, take, drop, vec_len, vec_capacity, IfOk, IsErr, IsTrue, OnOk, OnErr, ⊤};
+ghost use Rattle.std.specs.Prelude.{◌≡◌, ◌+◌, ◌≤◌, true, false, [], length, max, take, drop, vec_len, vec_capacity};
+ghost use Rattle.std.specs.Prelude.{IfOk, IsErr, IsTrue, OnOk, OnErr, ⊤};
 ghost use Rattle.pump_frame.specs.Counts.{CountsFailure};
 ghost use Rattle.disk_model.specs.Disk.{Moves, Same, Torn, IsWritten, Settled, KeepsImages, Answers, FailsPast};
 ghost use Rattle.disk_model.specs.Plain.{Plain, plain_meaning};

@@ -1,6 +1,7 @@
 // The calls of a shelf, and what they promise.
 ghost use Rattle.std.specs.Prelude.{◌≡◌, ◌≤◌, Some, IfOk, OnErr};
-ghost use Rattle.disk_model.specs.Shelf.{Holdings, Out, OnShelf, IsOut, FailsBy, LeavesOthers, ReadsFile, reading_given, count_when_back};
+ghost use Rattle.disk_model.specs.Shelf.{Holdings, Out, OnShelf, IsOut, FailsBy, LeavesOthers, ReadsFile};
+ghost use Rattle.disk_model.specs.Shelf.{reading_given, count_when_back};
 
 use crate::disk::Disk;
 use crate::name::DiskName;

@@ -1,7 +1,7 @@
 -- What the end of a sender of a stream says.
 use Rattle.std.proofs.Common.{◌≡◌, ◌⊎◌, ℕ, Bool, true, false, List, Option, inl, inr, refl}
 use Rattle.std.specs.Io.KnownBytes.{Appends}
-use Rattle.pump_link.specs.Causes.{AppendsFront}
+use Rattle.pump_link.specs.Causes.{AppendsPrefix}
 use Rattle.peers.specs.Appending.{appended_line}
 use Rattle.peers.specs.Outputs.{PrintsPart}
 use Rattle.peers.proofs.Outgoing.{whole_printed}
@@ -23,7 +23,7 @@ it_was_write (appender.Elsewhere number) e = absurd (cc)
 
 module _ (session lines next : ℕ) (mid new : Option (List ℕ)) where
   behind : (end : CommandEnd) (came : AppendEnd) → is_write came ≡ false
-      → ((end ≡ end_of_appender came lines next) × Appends mid new (appended_line session lines next)) ⊎ ((end ≡ Unwritten) × AppendsFront mid new (appended_line session lines next))
+      → ((end ≡ end_of_appender came lines next) × Appends mid new (appended_line session lines next)) ⊎ ((end ≡ Unwritten) × AppendsPrefix mid new (appended_line session lines next))
       → TellsEnd session came lines next mid new end
   behind end appender.Done e told = told
   behind end appender.Read e told = told
@@ -37,9 +37,9 @@ module _ (session lines next : ℕ) (mid new : Option (List ℕ)) where
   pub told : (came : AppendEnd) (b : Bool) → is_write came ≡ false → b ≡ true → PrintsPart mid new b (appended_line session lines next) → TellsEnd session came lines next mid new (end_of_appender came lines next)
   told came b e whole p = behind (end_of_appender came lines next) came e (inl (refl, whole_printed mid new b (appended_line session lines next) whole p))
 
-  -- .. or a front of it
+  -- .. or a prefix of it
   pub cut : (came : AppendEnd) (b : Bool) → is_write came ≡ false → PrintsPart mid new b (appended_line session lines next) → TellsEnd session came lines next mid new Unwritten
-  cut came b e (front, rest, whole, appends) = behind Unwritten came e (inr (refl, (front, rest.0, rest.1, appends)))
+  cut came b e (prefix, rest, whole, appends) = behind Unwritten came e (inr (refl, (prefix, rest.0, rest.1, appends)))
 
 -- nothing was written
 pub untold : (session lines next : ℕ) (mid : Option (List ℕ)) (came : AppendEnd) → is_write came ≡ true → TellsEnd session came lines next mid mid Unwritten

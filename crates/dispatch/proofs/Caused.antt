@@ -113,7 +113,7 @@ chain_causes Wants Disk Read Write end status is memory words disk read write =
 -- the status where the words are no command that is run is none but 2 and 4
 pub told_not : (old new : Option (List ℕ)) (status k : ℕ) → TellsWords old new status → nat_eq 2 k ≡ false → nat_eq 4 k ≡ false → status ≡ k → ⊥
 told_not old new status k (inl (two, line)) no2 no4 = is_not 2 k status no2 two
-told_not old new status k (inr (four, front)) no2 no4 = is_not 4 k status no4 four
+told_not old new status k (inr (four, prefix)) no2 no4 = is_not 4 k status no4 four
 
 -- the status of an exercise
 pub exercise_not : (status k : ℕ) → (status ≡ 0) ⊎ ((status ≡ 1) ⊎ (status ≡ 4)) → nat_eq 0 k ≡ false → nat_eq 1 k ≡ false → nat_eq 4 k ≡ false → status ≡ k → ⊥
@@ -164,7 +164,7 @@ replay_in status (inr e) = inr (inl e)
 
 pub told_in : (old new : Option (List ℕ)) (status : ℕ) → TellsWords old new status → IsStatus status
 told_in old new status (inl (two, line)) = inl (omega arith)
-told_in old new status (inr (four, front)) = inl (omega arith)
+told_in old new status (inr (four, prefix)) = inl (omega arith)
 
 pub exercise_in : (status : ℕ) → (status ≡ 0) ⊎ ((status ≡ 1) ⊎ (status ≡ 4)) → IsStatus status
 exercise_in status (inl e) = inl (omega arith)
@@ -191,4 +191,4 @@ compare_in status (inr (inr (inr (inr (inr e))))) = inr (inr (omega arith, omega
 pub race_memory : (IsRecord : List ℕ → Type 0) (old new : Option (List ℕ)) (status : ℕ) → EndsRace IsRecord old new status → status ≡ 1 → Appends old new []
 race_memory IsRecord old new status (inl (zero_is, record_is)) one = absurd (is_not 0 1 status refl zero_is one)
 race_memory IsRecord old new status (inr (inl (same, appends))) one = appends
-race_memory IsRecord old new status (inr (inr (four, front))) one = absurd (is_not 4 1 status refl four one)
+race_memory IsRecord old new status (inr (inr (four, prefix))) one = absurd (is_not 4 1 status refl four one)

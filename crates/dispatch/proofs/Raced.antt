@@ -20,5 +20,5 @@ module _ (seed count : ℕ) (times : List ℕ) (before after : List ℕ → Type
   pub wrote_whole : (failed : Bool) → failed ≡ false → WroteRecord seed count times before after old new was now failed → EndsRace (IsRecordOf seed count times before after) old new 0
   wrote_whole failed is (bytes, readings, asks, written, draws, race) = inl (refl, (bytes, (readings, asks, draws, race), written.whole is))
 
-  pub wrote_front : (failed : Bool) → WroteRecord seed count times before after old new was now failed → EndsRace (IsRecordOf seed count times before after) old new 4
-  wrote_front failed (bytes, readings, asks, written, draws, race) = inr (inr (refl, (bytes, (readings, asks, draws, race), written.front)))
+  pub wrote_prefix : (failed : Bool) → WroteRecord seed count times before after old new was now failed → EndsRace (IsRecordOf seed count times before after) old new 4
+  wrote_prefix failed (bytes, readings, asks, written, draws, race) = inr (inr (refl, (bytes, (readings, asks, draws, race), written.prefix)))

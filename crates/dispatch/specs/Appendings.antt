@@ -3,7 +3,7 @@ use Rattle.std.specs.Prelude.{◌≡◌, ◌⊎◌, ℕ, ◌+◌, ◌-◌, ◌^�
 use Rattle.std.specs.Io.KnownBytes.{Appends}
 use Rattle.pump_frame.specs.Counts.{Rose}
 use Rattle.pump_frame.specs.declared.row.SessionRow.{SessionRow}
-use Rattle.pump_link.specs.Causes.{AppendsFront}
+use Rattle.pump_link.specs.Causes.{AppendsPrefix}
 use Rattle.pump_link.specs.Ports.{PortsStep}
 use Rattle.pump_link.specs.Tells.{Grows}
 use Rattle.peers.specs.Appending.{AppendsLines, LinkTells, Made, appended_line, steps}
@@ -11,7 +11,8 @@ use Rattle.peers.specs.declared.append.AppendEnd.{AppendEnd}
 use Rattle.peers.specs.declared.append.AppendEnd.TheVariants as appender
 use Rattle.commands.specs.Tables.{StopsAtFile, HasRow}
 use Rattle.commands.specs.declared.command_end.CommandEnd.{CommandEnd}
-use Rattle.commands.specs.declared.command_end.CommandEnd.TheVariants.{Done, Unread, Unwritten, BadLine, Ahead, Denied, Unfinished}
+use Rattle.commands.specs.declared.command_end.CommandEnd.TheVariants.{Done, Unread, Unwritten, BadLine, Ahead, Denied}
+use Rattle.commands.specs.declared.command_end.CommandEnd.TheVariants.{Unfinished}
 
 -- how the call ends where the sender ended so: it acknowledged so many lines, and the next message has this number
 abbrev pub end_of_appender : AppendEnd → ℕ → ℕ → CommandEnd
@@ -27,33 +28,36 @@ abbrev pub is_write : AppendEnd → Bool
 is_write appender.Write = true
 is_write _ = false
 
--- the last line was written, or a front of it; where a line could not be written before, nothing was
+-- the last line was written, or a prefix of it; where a line could not be written before, nothing was
 abbrev pub TellsEnd : ℕ → AppendEnd → ℕ → ℕ → Option (List ℕ) → Option (List ℕ) → CommandEnd → Type 0
 TellsEnd session appender.Write lines next mid new end = (end ≡ Unwritten) × (new ≡ mid)
 TellsEnd session came lines next mid new end =
     ((end ≡ end_of_appender came lines next) × Appends mid new (appended_line session lines next))
-    ⊎ ((end ≡ Unwritten) × AppendsFront mid new (appended_line session lines next))
+    ⊎ ((end ≡ Unwritten) × AppendsPrefix mid new (appended_line session lines next))
 
 -- Of the ports' steps, of what is to come of the script and of the counts the second value is that at the end.
 module _ {D L : Type 0} (t : LinkTells L) (looks : ℕ) (ports now_ports : List (PortsStep L D) → Type 0)
-    (left now_left : Option (List ℕ)) (script_faults now_script_faults : ℕ) (written : Option (List ℕ)) (out_faults : ℕ) where
-  -- Low's sender of a stream worked with the row, over the links that the ports gave to the row's low port and took back
-  pub record AppendsFor (row : SessionRow) (end : CommandEnd) (mid : Option (List ℕ)) (mid_faults : ℕ) : Type 0 where
-    pub came : AppendEnd
-    pub lines : ℕ
-    pub next : ℕ
-    pub tries : List (Option (Made L))
-    pub printed : List ℕ
-    pub appends : AppendsLines t row looks tries left now_left came lines next printed
-    pub over : Grows ports now_ports (steps row.low_port tries)
-    pub acked : Option (List ℕ)
-    pub prints : Appends written acked printed
-    pub tells : TellsEnd row.id came lines next acked mid end
-    pub unread : end ≡ Unread → Rose script_faults now_script_faults
-    pub unwritten : end ≡ Unwritten → Rose out_faults mid_faults
+    (left now_left : Option (List ℕ)) (script_faults now_script_faults : ℕ) (written : Option (List ℕ)) (out_faults : ℕ)
+  where
+    -- Low's sender of a stream worked with the row, over the links that the ports gave to the row's low port and took
+    -- back
+    pub record AppendsFor (row : SessionRow) (end : CommandEnd) (mid : Option (List ℕ)) (mid_faults : ℕ) : Type 0 where
+      pub came : AppendEnd
+      pub lines : ℕ
+      pub next : ℕ
+      pub tries : List (Option (Made L))
+      pub printed : List ℕ
+      pub appends : AppendsLines t row looks tries left now_left came lines next printed
+      pub over : Grows ports now_ports (steps row.low_port tries)
+      pub acked : Option (List ℕ)
+      pub prints : Appends written acked printed
+      pub tells : TellsEnd row.id came lines next acked mid end
+      pub unread : end ≡ Unread → Rose script_faults now_script_faults
+      pub unwritten : end ≡ Unwritten → Rose out_faults mid_faults
 
-  -- .. with the row of the session, if the table has one; `file` is the table's, and the counts behind it are those of the files
-  abbrev pub AppendComes : Option (List ℕ) → ℕ → ℕ → ℕ → CommandEnd → Option (List ℕ) → ℕ → Type 0
-  AppendComes file file_faults now_file_faults session end mid mid_faults =
-      (StopsAtFile file_faults now_file_faults file session end × Grows ports now_ports [] × (mid ≡ written))
-      ⊎ ((row : SessionRow) × HasRow file session row × AppendsFor row end mid mid_faults)
+    -- .. with the row of the session, if the table has one; `file` is the table's, and the counts behind it are those
+    -- of the files
+    abbrev pub AppendComes : Option (List ℕ) → ℕ → ℕ → ℕ → CommandEnd → Option (List ℕ) → ℕ → Type 0
+    AppendComes file file_faults now_file_faults session end mid mid_faults =
+        (StopsAtFile file_faults now_file_faults file session end × Grows ports now_ports [] × (mid ≡ written))
+        ⊎ ((row : SessionRow) × HasRow file session row × AppendsFor row end mid mid_faults)

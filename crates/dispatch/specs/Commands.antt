@@ -3,8 +3,9 @@ use Rattle.std.specs.Prelude.{◌≡◌, ◌⊎◌, ℕ, Bool, true, false, List
 use Rattle.std.specs.Io.KnownBytes.{Appends}
 use Rattle.command_line.specs.Commands.{AreWordsOf}
 use Rattle.command_line.specs.declared.command.Command.{Command}
-use Rattle.command_line.specs.declared.command.Command.TheVariants.{Race, Serve, Receive, Send, Append, Wrap, Messages, Status}
-use Rattle.pump_link.specs.Causes.{AppendsFront}
+use Rattle.command_line.specs.declared.command.Command.TheVariants.{Race, Serve, Receive, Send, Append, Wrap, Messages}
+use Rattle.command_line.specs.declared.command.Command.TheVariants.{Status}
+use Rattle.pump_link.specs.Causes.{AppendsPrefix}
 use Rattle.script_reader.specs.Transcript.{fault_line}
 use Rattle.script_reader.specs.declared.fault.Fault.TheVariants as faults
 
@@ -33,7 +34,8 @@ IsWrap words = (table : List ℕ) × (session : ℕ) × AreWordsOf words (Wrap t
 
 -- .. of a command that reads the files of a session's disks beside a relay
 abbrev pub IsBeside : List (List ℕ) → Type 0
-IsBeside words = ((table : List ℕ) × (session : ℕ) × (from : ℕ) × AreWordsOf words (Messages table session from)) ⊎ ((table : List ℕ) × (session : ℕ) × AreWordsOf words (Status table session))
+IsBeside words = ((table : List ℕ) × (session : ℕ) × (from : ℕ) × AreWordsOf words (Messages table session from))
+    ⊎ ((table : List ℕ) × (session : ℕ) × AreWordsOf words (Status table session))
 
 -- a command with threads or over a socket is for `live`, every other one for `batch`
 abbrev pub is_live : Command → Bool
@@ -81,13 +83,16 @@ IsAtHigh words = IsServe words ⊎ IsReceive words
 
 -- .. of one that reads the low clock
 abbrev pub IsTimed : List (List ℕ) → Type 0
-IsTimed words = IsServe words ⊎ ((seed : ℕ) × (count : ℕ) × (times : List ℕ) × AreWordsOf words (Race seed count (record { items = times })))
+IsTimed words = IsServe words ⊎ ((seed : ℕ) × (count : ℕ) × (times : List ℕ)
+    × AreWordsOf words (Race seed count (record { items = times })))
 
--- what is written where the words are no command: with status 2 the fault, with status 4 a front of it, and nothing else
+-- what is written where the words are no command: with status 2 the fault, with status 4 a prefix of it, and nothing
+-- else
 abbrev pub TellsWords : Option (List ℕ) → Option (List ℕ) → ℕ → Type 0
 TellsWords old new status =
-    ((status ≡ 2) × Appends old new (fault_line faults.Words)) ⊎ ((status ≡ 4) × AppendsFront old new (fault_line faults.Words))
+    ((status ≡ 2) × Appends old new (fault_line faults.Words))
+    ⊎ ((status ≡ 4) × AppendsPrefix old new (fault_line faults.Words))
 
--- then the fault is written, or a front of it; or nothing, where memory was wanting
+-- then the fault is written, or a prefix of it; or nothing, where memory was wanting
 abbrev pub RefusesWords : Option (List ℕ) → Option (List ℕ) → ℕ → Type 0
 RefusesWords old new status = TellsWords old new status ⊎ ((status ≡ 1) × Appends old new [])

@@ -11,7 +11,8 @@ IsNoDiskEnd (Refused role why) = ⊥
 IsNoDiskEnd end = Unit {0}
 
 -- A call came to an end when `mid` was written and the sink had failed so often; then it wrote its fault.
-pub record EndsLive (Comes : CommandEnd → Option (List ℕ) → ℕ → Type 0) (new : Option (List ℕ)) (now_faults session status : ℕ) : Type 0 where
+pub record EndsLive (Comes : CommandEnd → Option (List ℕ) → ℕ
+    → Type 0) (new : Option (List ℕ)) (now_faults session status : ℕ) : Type 0 where
   pub end : CommandEnd
   pub mid : Option (List ℕ)
   pub mid_faults : ℕ

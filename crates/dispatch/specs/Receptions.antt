@@ -13,13 +13,14 @@ use Rattle.stable_buffer.specs.Register.{value_of}
 use Rattle.script_replay.specs.Shelves.{Places, disk_name, reading_at}
 use Rattle.commands.specs.CommandEnds.{NamesFailed}
 use Rattle.commands.specs.LentDisks.{LeavesOtherDisks, StopsAtDisk}
-use Rattle.peers.specs.Receiving.{Place, Reception, Receives, StandsForFront, attempted, is_device, messages}
+use Rattle.peers.specs.Receiving.{Place, Reception, Receives, StandsForPrefix, attempted, is_device, messages}
 use Rattle.peers.specs.declared.receive.ReceiveEnd.{ReceiveEnd}
 use Rattle.peers.specs.declared.receive.ReceiveEnd.TheVariants as receiver
 use Rattle.serving.specs.Doors.{LinksTell}
 use Rattle.commands.specs.Tables.{StopsAtTable, HasRow}
 use Rattle.commands.specs.declared.command_end.CommandEnd.{CommandEnd}
-use Rattle.commands.specs.declared.command_end.CommandEnd.TheVariants.{Done, Failed, Unwritten, Unconnected, Ahead, Full}
+use Rattle.commands.specs.declared.command_end.CommandEnd.TheVariants.{Done, Failed, Unwritten, Unconnected, Ahead}
+use Rattle.commands.specs.declared.command_end.CommandEnd.TheVariants.{Full}
 
 -- how the call ends where the receiver ended so
 abbrev pub end_of_receiver : ReceiveEnd → CommandEnd
@@ -36,7 +37,8 @@ module _ {D L : Type 0} (t : LinksTell L) (looks : ℕ) (ports now_ports : List 
     (written : Option (List ℕ)) (out_faults : ℕ) (found left : List ℕ) where
   -- High's receiver worked with the row, from where its disk stood, over the one link that the ports gave, to the
   -- row's high port, and took back. The list on the disk grew by the messages that it took.
-  pub record HasReceived (row : SessionRow) (end : ReceiveEnd) (now_written : Option (List ℕ)) (now_out_faults : ℕ) : Type 0 where
+  pub record HasReceived (row : SessionRow) (end : ReceiveEnd) (now_written : Option (List ℕ)) (now_out_faults : ℕ) :
+      Type 0 where
     pub came : L
     pub back : L
     pub over : Grows ports now_ports (Connected row.high_port came ∷ BackToPorts back ∷ [])
@@ -45,12 +47,22 @@ module _ {D L : Type 0} (t : LinksTell L) (looks : ℕ) (ports now_ports : List 
     pub reception : Reception
     pub disk_faults : ℕ
     pub now_disk_faults : ℕ
-    pub receives : Receives row receiver_size looks start reception (record { link = t.faults came; now_link = t.faults back; out = out_faults; now_out = now_out_faults; other = disk_faults; now_other = now_disk_faults }) end
+    pub receives : Receives row receiver_size looks start reception
+        (record {
+          link = t.faults came;
+          now_link = t.faults back;
+          out = out_faults;
+          now_out = now_out_faults;
+          other = disk_faults;
+          now_other = now_disk_faults;
+        }) end
     pub gave : Draws (t.gives came) (t.gives back) (reception.heard ++ reception.looks)
     pub sent : Grows (t.sent came) (t.sent back) reception.sent
     pub printed : Appends written now_written reception.printed
-    pub grown : is_device end ≡ false → (list : List (List ℕ)) → RecvStands row list found → RecvStands row (list ++ messages reception.turns) left
-    pub kept : (list : List (List ℕ)) → RecvStands row list found → StandsForFront row list (attempted reception end) left
+    pub grown : is_device end ≡ false → (list : List (List ℕ)) → RecvStands row list found
+        → RecvStands row (list ++ messages reception.turns) left
+    pub kept : (list : List (List ℕ)) → RecvStands row list found
+        → StandsForPrefix row list (attempted reception end) left
 
   -- no link came, or the receiver worked
   abbrev pub ReceivesOver : SessionRow → CommandEnd → Option (List ℕ) → ℕ → Type 0
@@ -66,10 +78,12 @@ module _ {D L : Type 0} (t : LinksTell L) (looks : ℕ) (ports now_ports : List 
 
 -- With the row of the session, if the table has one; `file` is the table's. `before` and `after` say where each
 -- disk is: none but the receiver's has changed. `fails` says which disk failed, where the end names one.
-abbrev pub ReceiveComes : {D L : Type 0} → LinksTell L → ℕ → (List (PortsStep L D) → Type 0) → (List (PortsStep L D) → Type 0) → Option (List ℕ) → ℕ
+abbrev pub ReceiveComes : {D L : Type 0} → LinksTell L → ℕ → (List (PortsStep L D) → Type 0)
+    → (List (PortsStep L D) → Type 0) → Option (List ℕ) → ℕ
     → Option (List ℕ) → Places → Places → (ℕ → Role → Type 0) → ℕ → CommandEnd → Option (List ℕ) → ℕ → Type 0
 ReceiveComes t looks ports now_ports written out_faults file before after fails session end mid mid_faults =
     NamesFailed fails session end
     × ((StopsAtTable file session end × (after ≡ before) × Grows ports now_ports [] × (mid ≡ written))
     ⊎ ((row : SessionRow) × HasRow file session row × LeavesOtherDisks before after (disk_name row.id roles.Recv)
-    × ReceivesFor t looks ports now_ports written out_faults (reading_at before row.id roles.Recv) (reading_at after row.id roles.Recv) row end mid mid_faults))
+    × ReceivesFor t looks ports now_ports written out_faults (reading_at before row.id roles.Recv)
+    (reading_at after row.id roles.Recv) row end mid mid_faults))

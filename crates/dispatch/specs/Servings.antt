@@ -23,7 +23,8 @@ use Rattle.commands.specs.LentDisks.{LeavesBut}
 use Rattle.commands.specs.Tables.{IsTableEnd, StopsAtTable, HasRow}
 use Rattle.commands.specs.Showing.{end_at}
 use Rattle.commands.specs.declared.command_end.CommandEnd.{CommandEnd}
-use Rattle.commands.specs.declared.command_end.CommandEnd.TheVariants.{Done, Memory, Unread, Failed, Unwritten, Unconnected}
+use Rattle.commands.specs.declared.command_end.CommandEnd.TheVariants.{Done, Memory, Unread, Failed, Unwritten}
+use Rattle.commands.specs.declared.command_end.CommandEnd.TheVariants.{Unconnected}
 
 -- how the call ends where the workers ended so: the record comes first, then the low disk, then the high one
 abbrev pub end_of_workers : RoundsEnd → RoundsEnd → CommandEnd
@@ -49,8 +50,8 @@ StopsAtShelf end = ⊥
 
 -- ---- what is told of a call ----
 
--- Where each disk of a shelf is, before the call and now, and what its disks do. Where `tells` has no proof the shelf tells
--- no reading.
+-- Where each disk of a shelf is, before the call and now, and what its disks do. Where `tells` has no proof the shelf
+-- tells no reading.
 pub record DisksTell (S : Type 0) : Type 1 where
   pub tells : Type 0
   pub meaning : Meaning S
@@ -75,10 +76,22 @@ abbrev pub disks : {H S : Type 0} → Holdings H → Meaning S → H → H → D
 disks m meaning old new = record { tells = m.tells; meaning = meaning; before = m.disk old; after = m.disk new }
 
 abbrev pub file : {H : Type 0} → Holdings H → H → H → List ℕ → FileTells
-file m old new name = record { tells = m.tells; bytes = m.file old name; faults = m.faults old; now_faults = m.faults new }
+file m old new name = record {
+  tells = m.tells;
+  bytes = m.file old name;
+  faults = m.faults old;
+  now_faults = m.faults
+      new;
+}
 
 abbrev pub source : {Q : Type 0} → (Q → Option (List ℕ)) → (Q → ℕ) → Q → Q → SourceTells
-source left faults old new = record { left = left old; now_left = left new; faults = faults old; now_faults = faults new }
+source left faults old new = record {
+  left = left old;
+  now_left = left new;
+  faults = faults old;
+  now_faults = faults
+      new;
+}
 
 -- ---- the row of the table ----
 
@@ -88,13 +101,16 @@ GivesRow f session row = IsLawfulRow row × (row.id ≡ session) × (f.tells →
 
 -- there was no row: a read failed, or there was no memory, or, where the shelf tells, the file has none
 abbrev pub GivesNoRow : FileTells → ℕ → CommandEnd → Type 0
-GivesNoRow f session end = IsTableEnd end × (end ≡ Unread → Rose f.faults f.now_faults) × (f.tells → StopsAtTable f.bytes session end)
+GivesNoRow f session end = IsTableEnd end × (end ≡ Unread → Rose f.faults f.now_faults)
+    × (f.tells → StopsAtTable f.bytes session end)
 
 -- ---- the call ----
 
--- `low_side` and `high_side` have what each side of the relay tells of the call. Of the sink the second value is that at the
--- end. Ports, clocks, sink and row are spoken of over any shelf, and readings and files over one that tells them.
-module _ {D L S : Type 0} (t : DoorsTell D L) (looks : ℕ) (low_side high_side : SideTells D L) (d : DisksTell S) (written : Option (List ℕ)) (out_faults : ℕ) where
+-- `low_side` and `high_side` have what each side of the relay tells of the call. Of the sink the second value is that
+-- at the end. Ports, clocks, sink and row are spoken of over any shelf, and readings and files over one that tells
+-- them.
+module _ {D L S : Type 0} (t : DoorsTell D L) (looks : ℕ) (low_side high_side : SideTells D L) (d : DisksTell S)
+    (written : Option (List ℕ)) (out_faults : ℕ) where
   -- nothing was opened, read off a clock, written or changed
   pub record IsIdle (now_written : Option (List ℕ)) : Type 0 where
     pub low_unused : IsUnused low_side
@@ -104,7 +120,8 @@ module _ {D L S : Type 0} (t : DoorsTell D L) (looks : ℕ) (low_side high_side 
 
   -- The session was opened over its two disks, and where both doors were too, both workers served, at the two ends
   -- of one passage: the low one with the words of the key.
-  pub record HasServed (row : SessionRow) (key : List ℕ) (end : SessionEnd) (now_written : Option (List ℕ)) (now_out_faults : ℕ) : Type 0 where
+  pub record HasServed (row : SessionRow) (key : List ℕ) (end : SessionEnd) (now_written : Option (List ℕ))
+      (now_out_faults : ℕ) : Type 0 where
     pub low : S
     pub now_low : S
     pub high : S
@@ -115,14 +132,18 @@ module _ {D L S : Type 0} (t : DoorsTell D L) (looks : ℕ) (low_side high_side 
     pub high_found : d.tells → d.meaning.reading high ≡ reading_at d.before row.id roles.High
     pub high_left : d.tells → d.meaning.reading now_high ≡ reading_at d.after row.id roles.High
     -- the two workers
-    pub workers : IfEnded end (λ ends. BothServed t d.meaning row looks key low_side high_side written now_written out_faults now_out_faults low high now_low now_high ends)
+    pub workers : IfEnded end (λ ends. BothServed t d.meaning row looks key low_side high_side written now_written
+        out_faults now_out_faults low high now_low now_high ends)
     -- the other ends, by their causes, and what they leave
     pub opens : OpensBy d.meaning row low high now_low now_high end
     pub wanting : end ≡ session_ends.NoDoor → WantDoor low_side.ports high_side.ports row.low_port row.high_port
-    pub unstarted : end ≡ session_ends.NoThread → OpensAndShuts low_side.ports row.low_port × OpensAndShuts high_side.ports row.high_port
+    pub unstarted : end ≡ session_ends.NoThread → OpensAndShuts low_side.ports row.low_port
+        × OpensAndShuts high_side.ports row.high_port
     pub closed : is_opened end ≡ false → IsUnused low_side × IsUnused high_side
-    pub idle : has_run end ≡ false → (now_written ≡ written) × Draws low_side.reads low_side.now_reads [] × Draws high_side.reads high_side.now_reads []
-    pub still : has_run end ≡ false → d.meaning.tells → (d.meaning.reading now_low ≡ d.meaning.reading low) × (d.meaning.reading now_high ≡ d.meaning.reading high)
+    pub idle : has_run end ≡ false → (now_written ≡ written) × Draws low_side.reads low_side.now_reads []
+        × Draws high_side.reads high_side.now_reads []
+    pub still : has_run end ≡ false → d.meaning.tells → (d.meaning.reading now_low ≡ d.meaning.reading low)
+        × (d.meaning.reading now_high ≡ d.meaning.reading high)
 
   -- with this key: a disk could not be taken, or the session was served
   abbrev pub ServesWith : SessionRow → List ℕ → CommandEnd → Option (List ℕ) → ℕ → Type 0
@@ -134,7 +155,8 @@ module _ {D L S : Type 0} (t : DoorsTell D L) (looks : ℕ) (low_side high_side 
   abbrev pub ServesFor : SourceTells → SessionRow → CommandEnd → Option (List ℕ) → ℕ → Type 0
   ServesFor keys row end mid mid_faults =
       ((end ≡ Unread) × (Rose keys.faults keys.now_faults ⊎ IfSome keys.left (λ bytes. length bytes < 32)) × IsIdle mid)
-      ⊎ ((key : List ℕ) × (length key ≡ 32) × Consumes keys.left keys.now_left key × ServesWith row key end mid mid_faults)
+      ⊎ ((key : List ℕ) × (length key ≡ 32) × Consumes keys.left keys.now_left key
+      × ServesWith row key end mid mid_faults)
 
   -- .. with the row of the session, if the table has one; `fails` says which disk failed, where the end names one
   abbrev pub ServeComes : SourceTells → FileTells → (ℕ → Role → Type 0) → ℕ → CommandEnd → Option (List ℕ) → ℕ → Type 0

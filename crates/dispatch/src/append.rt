@@ -49,9 +49,11 @@ fn is_write(end: AppendEnd) -> bool
 
 // Prints how far the sender came, unless its lines can't be printed.
 fn tell_end<O: Sink>(session: u32, appended: &Appended, out: &mut O) -> CommandEnd
-    ensures tells { TellsEnd session appended.now.end appended.now.lines appended.now.next (O.written out.old) (O.written out.new) result }
+    ensures tells { TellsEnd session appended.now.end appended.now.lines appended.now.next (O.written out.old)
+        (O.written out.new) result }
     ensures unread { result ≡ ends.Unread → appended.now.end ≡ AppendEnd.Read }
-    ensures unwritten { result ≡ ends.Unwritten → (appended.now.end ≡ AppendEnd.Write) ⊎ Rose (O.faults out.old) (O.faults out.new) }
+    ensures unwritten { result ≡ ends.Unwritten → (appended.now.end ≡ AppendEnd.Write)
+        ⊎ Rose (O.faults out.old) (O.faults out.new) }
     ensures memory { result ≡ ends.Memory → ⊥ }
     ensures link { result ≡ ends.Unconnected → ⊥ }
     ensures disk { IsNoDiskEnd result }
@@ -75,7 +77,8 @@ fn append_over<P: Ports, I: Source, O: Sink>(
     script: &mut I,
     out: &mut O,
 ) -> CommandEnd
-    ensures appends { AppendsFor (link_tells P.Link.gives P.Link.sent P.Link.faults) looks (P.did ports.old) (P.did ports.new) (I.left script.old) (I.left script.new) (I.faults script.old) (I.faults script.new)
+    ensures appends { AppendsFor (link_tells P.Link.gives P.Link.sent P.Link.faults) looks (P.did ports.old)
+        (P.did ports.new) (I.left script.old) (I.left script.new) (I.faults script.old) (I.faults script.new)
         (O.written out.old) (O.faults out.old) row.now result (O.written out.new) (O.faults out.new) }
     ensures read { result ≡ ends.Unread → Rose (I.faults script.old) (I.faults script.new) }
     ensures memory { result ≡ ends.Memory → ⊥ }
@@ -99,11 +102,15 @@ fn run_append<S: Shelf, P: Ports, I: Source, O: Sink>(
     script: &mut I,
     out: &mut O,
 ) -> CommandEnd
-    ensures comes { S.told.tells → AppendComes (link_tells P.Link.gives P.Link.sent P.Link.faults) looks (P.did ports.old) (P.did ports.new)
-        (I.left script.old) (I.left script.new) (I.faults script.old) (I.faults script.new) (O.written out.old) (O.faults out.old) (S.told.file shelf.old table.now) (S.told.faults shelf.old) (S.told.faults shelf.new) session result (O.written out.new) (O.faults out.new) }
+    ensures comes { S.told.tells → AppendComes (link_tells P.Link.gives P.Link.sent P.Link.faults) looks
+        (P.did ports.old) (P.did ports.new)
+        (I.left script.old) (I.left script.new) (I.faults script.old) (I.faults script.new) (O.written out.old)
+        (O.faults out.old) (S.told.file shelf.old table.now) (S.told.faults shelf.old) (S.told.faults shelf.new) session
+        result (O.written out.new) (O.faults out.new) }
     ensures disks { S.told.disk shelf.new ≡ S.told.disk shelf.old }
     ensures memory { result ≡ ends.Memory → Appends (O.written out.old) (O.written out.new) [] }
-    ensures read { result ≡ ends.Unread → Rose (I.faults script.old) (I.faults script.new) ⊎ Rose (S.told.faults shelf.old) (S.told.faults shelf.new) }
+    ensures read { result ≡ ends.Unread → Rose (I.faults script.old) (I.faults script.new)
+        ⊎ Rose (S.told.faults shelf.old) (S.told.faults shelf.new) }
     ensures unwritten { result ≡ ends.Unwritten → Rose (O.faults out.old) (O.faults out.new) }
     ensures disk { IsNoDiskEnd result }
     ensures link { result ≡ ends.Unconnected → ⊥ }
@@ -129,11 +136,15 @@ pub fn append_session<S: Shelf, P: Ports, K, I: Source, O: Sink>(
     script: &mut I,
     out: &mut O,
 ) -> u8
-    ensures ends { S.told.tells → EndsLive (AppendComes (link_tells P.Link.gives P.Link.sent P.Link.faults) looks (P.did low.old.ports) (P.did low.new.ports)
-        (I.left script.old) (I.left script.new) (I.faults script.old) (I.faults script.new) (O.written out.old) (O.faults out.old) (S.told.file shelf.old table.now) (S.told.faults shelf.old) (S.told.faults shelf.new) session) (O.written out.new) (O.faults out.new) session result }
+    ensures ends { S.told.tells → EndsLive (AppendComes (link_tells P.Link.gives P.Link.sent P.Link.faults) looks
+        (P.did low.old.ports) (P.did low.new.ports)
+        (I.left script.old) (I.left script.new) (I.faults script.old) (I.faults script.new) (O.written out.old)
+        (O.faults out.old) (S.told.file shelf.old table.now) (S.told.faults shelf.old) (S.told.faults shelf.new)
+        session) (O.written out.new) (O.faults out.new) session result }
     ensures disks { S.told.disk shelf.new ≡ S.told.disk shelf.old }
     ensures memory { result ≡ 1 → Appends (O.written out.old) (O.written out.new) [] }
-    ensures read { result ≡ 3 → Rose (I.faults script.old) (I.faults script.new) ⊎ Rose (S.told.faults shelf.old) (S.told.faults shelf.new) }
+    ensures read { result ≡ 3 → Rose (I.faults script.old) (I.faults script.new)
+        ⊎ Rose (S.told.faults shelf.old) (S.told.faults shelf.new) }
     ensures unwritten { result ≡ 4 → Rose (O.faults out.old) (O.faults out.new) }
     ensures disk { (result ≡ 7 → ⊥) × (result ≡ 8 → ⊥) }
     ensures link { result ≡ 9 → ⊥ }

@@ -14,7 +14,8 @@ ghost use Rattle.script_replay.specs.Shelves.{AllAreBack};
 ghost use Rattle.peers.specs.Appending.{link_tells};
 ghost use Rattle.serving.specs.Doors.{doors, links};
 ghost use Rattle.dispatch.specs.Appendings.{AppendComes};
-ghost use Rattle.dispatch.specs.Commands.{is_live, IsNoLiveCommand, IsAtHigh, IsAtLow, IsOverTable, IsSender, IsServe, IsTimed, RefusesWords};
+ghost use Rattle.dispatch.specs.Commands.{is_live, IsNoLiveCommand, IsAtHigh, IsAtLow, IsOverTable, IsSender, IsServe};
+ghost use Rattle.dispatch.specs.Commands.{IsTimed, RefusesWords};
 ghost use Rattle.dispatch.specs.LiveEnds.{EndsLive};
 ghost use Rattle.dispatch.specs.Racing.{IsRecordOf, EndsRace};
 ghost use Rattle.dispatch.specs.Receptions.{ReceiveComes};
@@ -49,7 +50,8 @@ fn run_race<R: Threads + Wait + Sync, P, K: Clock + Send, O: Sink + Send>(
     requires some { 1 ≤ count }
     requires few { count ≤ 100000 }
     requires times { AreTimes times.now }
-    ensures ends { EndsRace (IsRecordOf seed count times.now (K.reads low.old.clock) (K.reads low.new.clock)) (O.written out.old) (O.written out.new) result }
+    ensures ends { EndsRace (IsRecordOf seed count times.now (K.reads low.old.clock) (K.reads low.new.clock))
+        (O.written out.old) (O.written out.new) result }
     ensures ports { low.new.ports ≡ low.old.ports }
     ensures cause { result ≡ 4 → Rose (O.faults out.old) (O.faults out.new) }
     ensures status { (result ≡ 0) ⊎ ((result ≡ 1) ⊎ (result ≡ 4)) }
@@ -86,15 +88,16 @@ fn run_race<R: Threads + Wait + Sync, P, K: Clock + Send, O: Sink + Send>(
 /// those of the disks, the ports and the lines in turn. The disks that a command takes off the shelf are back
 /// on it at the return, and so are links and doors at the ports.
 ///
-/// Each side has ports and a clock of its own. `serve` is at both, `send` and `append` are at the low side alone,
-/// and `receive` at the high one. A race asks the low clock for the moment of each of its looks. It needs no shelf, port, key and
-/// script, and nothing of the high side. Where the clock and the sink tell, `EndsRace` says that what is written
-/// is the record of the looks that had these moments, and what a record has. `ServeComes` says over any shelf how
-/// serving comes to its end: what each worker did, at which door, by which clock, with which words and at which end
-/// of their passage (`BothServed`); and, where the shelf and its disks tell, by which row of the file and over what the
-/// disks held. Where they tell, `SendComes` and `ReceiveComes` say what Low's sender and High's receiver did over
-/// the link that came, and `AppendComes` what Low's sender of a stream did over those that came. `docs/formats.md`
-/// has the lines.
+/// Each side has ports and a clock of its own. `serve` is at both, `send` and `append` are at the
+/// low side alone, and `receive` at the high one. A race asks the low clock for the moment of each
+/// of its looks. It needs no shelf, port, key and script, and nothing of the high side. Where the
+/// clock and the sink tell, `EndsRace` says that what is written is the record of the looks that
+/// had these moments, and what a record has. `ServeComes` says over any shelf how serving comes to
+/// its end: what each worker did, at which door, by which clock, with which words and at which end
+/// of their passage (`BothServed`); and, where the shelf and its disks tell, by which row of the
+/// file and over what the disks held. Where they tell, `SendComes` and `ReceiveComes` say what
+/// Low's sender and High's receiver did over the link that came, and `AppendComes` what Low's
+/// sender of a stream did over those that came. `docs/formats.md` has the lines.
 pub fn live<
     R: Threads + Wait + Sync,
     S: Shelf,
@@ -121,40 +124,65 @@ where
     P::Link: Send,
     P::Door: Send,
     // Words that are no such command.
-    ensures words { IsNoLiveCommand (map string_bytes words.now.items) → RefusesWords (O.written out.old) (O.written out.new) result }
-    ensures known { (c : Asked) → is_live c ≡ true → AreWordsOf (map string_bytes words.now.items) c → (result ≡ 2 → ⊥) }
+    ensures words { IsNoLiveCommand (map string_bytes words.now.items)
+        → RefusesWords (O.written out.old) (O.written out.new) result }
+    ensures known { (c : Asked) → is_live c ≡ true → AreWordsOf (map string_bytes words.now.items) c
+        → (result ≡ 2 → ⊥) }
     // What a command does not need is untouched.
     ensures shelf { (IsOverTable (map string_bytes words.now.items) → ⊥) → shelf.new ≡ shelf.old }
     ensures low_ports { (IsAtLow (map string_bytes words.now.items) → ⊥) → low.new.ports ≡ low.old.ports }
     ensures high_ports { (IsAtHigh (map string_bytes words.now.items) → ⊥) → high.new.ports ≡ high.old.ports }
     ensures script { (IsSender (map string_bytes words.now.items) → ⊥) → script.new ≡ script.old }
-    ensures keys { (IsServe (map string_bytes words.now.items) → ⊥) → (keys.new ≡ keys.old) × (high.new.clock ≡ high.old.clock) }
+    ensures keys { (IsServe (map string_bytes words.now.items) → ⊥) → (keys.new ≡ keys.old)
+        × (high.new.clock ≡ high.old.clock) }
     ensures clock { (IsTimed (map string_bytes words.now.items) → ⊥) → low.new.clock ≡ low.old.clock }
     // Whatever the status is, every disk is back on the shelf.
     ensures back { S.told.tells → AllAreBack (S.told.disk shelf.old) (S.told.disk shelf.new) }
     // The statuses that come only where a count rose, or a source ended.
     ensures memory { result ≡ 1 → Appends (O.written out.old) (O.written out.new) [] }
-    ensures read { result ≡ 3 → Rose (S.told.faults shelf.old) (S.told.faults shelf.new) ⊎ (Rose (I.faults script.old) (I.faults script.new)
+    ensures read { result ≡ 3 → Rose (S.told.faults shelf.old) (S.told.faults shelf.new)
+        ⊎ (Rose (I.faults script.old) (I.faults script.new)
         ⊎ (Rose (Q.faults keys.old) (Q.faults keys.new) ⊎ IfSome (Q.left keys.old) (λ bytes. length bytes < 32))) }
     ensures unwritten { result ≡ 4 → Rose (O.faults out.old) (O.faults out.new) }
     ensures device { result ≡ 7 → Rose (S.told.disk_faults shelf.old) (S.told.disk_faults shelf.new) }
-    ensures link { result ≡ 9 → Rose (P.faults low.old.ports) (P.faults low.new.ports) ⊎ Rose (P.faults high.old.ports) (P.faults high.new.ports) }
+    ensures link { result ≡ 9 → Rose (P.faults low.old.ports) (P.faults low.new.ports)
+        ⊎ Rose (P.faults high.old.ports) (P.faults high.new.ports) }
     // How each command ends.
-    ensures race { (seed : ℕ) (count : ℕ) (times : List ℕ) → AreWordsOf (map string_bytes words.now.items) (commands.Race seed count (record { items = times }))
-        → EndsRace (IsRecordOf seed count times (K.reads low.old.clock) (K.reads low.new.clock)) (O.written out.old) (O.written out.new) result }
-    ensures serve { (table : List ℕ) (session looks : ℕ) → AreWordsOf (map string_bytes words.now.items) (commands.Serve table session looks)
-        → EndsLive (ServeComes (doors P.Door.port P.Door.did P.Door.gives (links P.Link.gives P.Link.sent P.Link.faults)) looks
-        (side P.did P.faults K.reads low.old low.new) (side P.did P.faults K.reads high.old high.new) (disks S.told S.Disk.told shelf.old shelf.new) (O.written out.old) (O.faults out.old)
-        (source Q.left Q.faults keys.old keys.new) (file S.told shelf.old shelf.new table) (FailsAt S.told S.Disk.told shelf.old shelf.new) session) (O.written out.new) (O.faults out.new) session result }
-    ensures receive { (table : List ℕ) (session looks : ℕ) → AreWordsOf (map string_bytes words.now.items) (commands.Receive table session looks) → S.told.tells → S.Disk.told.tells
-        → EndsLive (ReceiveComes (links P.Link.gives P.Link.sent P.Link.faults) looks (P.did high.old.ports) (P.did high.new.ports)
-        (O.written out.old) (O.faults out.old) (S.told.file shelf.old table) (S.told.disk shelf.old) (S.told.disk shelf.new) (RecvFailsAt S.told S.Disk.told shelf.old shelf.new) session) (O.written out.new) (O.faults out.new) session result }
-    ensures send { (table : List ℕ) (session looks : ℕ) → AreWordsOf (map string_bytes words.now.items) (commands.Send table session looks) → S.told.tells
-        → EndsLive (SendComes (links P.Link.gives P.Link.sent P.Link.faults) looks (P.did low.old.ports) (P.did low.new.ports)
-        (I.left script.old) (I.left script.new) (I.faults script.old) (I.faults script.new) (O.written out.old) (O.faults out.old) (S.told.file shelf.old table) (S.told.faults shelf.old) (S.told.faults shelf.new) session) (O.written out.new) (O.faults out.new) session result }
-    ensures append { (table : List ℕ) (session looks : ℕ) → AreWordsOf (map string_bytes words.now.items) (commands.Append table session looks) → S.told.tells
-        → EndsLive (AppendComes (link_tells P.Link.gives P.Link.sent P.Link.faults) looks (P.did low.old.ports) (P.did low.new.ports)
-        (I.left script.old) (I.left script.new) (I.faults script.old) (I.faults script.new) (O.written out.old) (O.faults out.old) (S.told.file shelf.old table) (S.told.faults shelf.old) (S.told.faults shelf.new) session) (O.written out.new) (O.faults out.new) session result }
+    ensures race { (seed : ℕ) (count : ℕ) (times : List ℕ)
+        → AreWordsOf (map string_bytes words.now.items) (commands.Race seed count (record { items = times }))
+        → EndsRace (IsRecordOf seed count times (K.reads low.old.clock) (K.reads low.new.clock)) (O.written out.old)
+        (O.written out.new) result }
+    ensures serve { (table : List ℕ) (session looks : ℕ)
+        → AreWordsOf (map string_bytes words.now.items) (commands.Serve table session looks)
+        → EndsLive (ServeComes (doors P.Door.port P.Door.did P.Door.gives (links P.Link.gives P.Link.sent
+        P.Link.faults)) looks
+        (side P.did P.faults K.reads low.old low.new) (side P.did P.faults K.reads high.old high.new)
+        (disks S.told S.Disk.told shelf.old shelf.new) (O.written out.old) (O.faults out.old)
+        (source Q.left Q.faults keys.old keys.new) (file S.told shelf.old shelf.new table)
+        (FailsAt S.told S.Disk.told shelf.old shelf.new) session) (O.written out.new) (O.faults out.new) session
+        result }
+    ensures receive { (table : List ℕ) (session looks : ℕ)
+        → AreWordsOf (map string_bytes words.now.items) (commands.Receive table session looks) → S.told.tells
+        → S.Disk.told.tells
+        → EndsLive (ReceiveComes (links P.Link.gives P.Link.sent P.Link.faults) looks (P.did high.old.ports)
+        (P.did high.new.ports)
+        (O.written out.old) (O.faults out.old) (S.told.file shelf.old table) (S.told.disk shelf.old)
+        (S.told.disk shelf.new) (RecvFailsAt S.told S.Disk.told shelf.old shelf.new) session) (O.written out.new)
+        (O.faults out.new) session result }
+    ensures send { (table : List ℕ) (session looks : ℕ)
+        → AreWordsOf (map string_bytes words.now.items) (commands.Send table session looks) → S.told.tells
+        → EndsLive (SendComes (links P.Link.gives P.Link.sent P.Link.faults) looks (P.did low.old.ports)
+        (P.did low.new.ports)
+        (I.left script.old) (I.left script.new) (I.faults script.old) (I.faults script.new) (O.written out.old)
+        (O.faults out.old) (S.told.file shelf.old table) (S.told.faults shelf.old) (S.told.faults shelf.new) session)
+        (O.written out.new) (O.faults out.new) session result }
+    ensures append { (table : List ℕ) (session looks : ℕ)
+        → AreWordsOf (map string_bytes words.now.items) (commands.Append table session looks) → S.told.tells
+        → EndsLive (AppendComes (link_tells P.Link.gives P.Link.sent P.Link.faults) looks (P.did low.old.ports)
+        (P.did low.new.ports)
+        (I.left script.old) (I.left script.new) (I.faults script.old) (I.faults script.new) (O.written out.old)
+        (O.faults out.old) (S.told.file shelf.old table) (S.told.faults shelf.old) (S.told.faults shelf.new) session)
+        (O.written out.new) (O.faults out.new) session result }
 {
     let asked = match command_of(alloc, words.as_slice()) {
         Ok(asked) => asked,

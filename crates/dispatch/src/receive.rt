@@ -58,9 +58,12 @@ fn receive_over<P: Ports, D: Disk, O: Sink>(
     requires ready { IsRecvReady D.told receiver }
     requires row { recv_row receiver ≡ row.now }
     requires size { recv_size receiver ≡ receiver_size }
-    ensures receives { D.told.tells → ReceivesOver (links P.Link.gives P.Link.sent P.Link.faults) looks (P.did ports.old) (P.did ports.new) (O.written out.old) (O.faults out.old)
-        (D.told.reading (recv_disk receiver)) (D.told.reading result.disk) row.now result.end (O.written out.new) (O.faults out.new) }
-    ensures device { (role : DiskRole) → result.end ≡ ends.Failed role → Rose (D.told.count (recv_disk receiver)) (D.told.count result.disk) }
+    ensures receives { D.told.tells → ReceivesOver (links P.Link.gives P.Link.sent P.Link.faults) looks
+        (P.did ports.old) (P.did ports.new) (O.written out.old) (O.faults out.old)
+        (D.told.reading (recv_disk receiver)) (D.told.reading result.disk) row.now result.end (O.written out.new)
+        (O.faults out.new) }
+    ensures device { (role : DiskRole) → result.end ≡ ends.Failed role
+        → Rose (D.told.count (recv_disk receiver)) (D.told.count result.disk) }
     ensures role { (role : DiskRole) → result.end ≡ ends.Failed role → role ≡ roles.Recv }
     ensures readable { result.end ≡ ends.Unread → ⊥ }
     ensures memory { result.end ≡ ends.Memory → out.new ≡ out.old }
@@ -94,9 +97,11 @@ fn receive_on<P: Ports, D: Disk, O: Sink>(
     out: &mut O,
 ) -> Received<D>
     requires lawful { IsLawfulRow row.now }
-    ensures receives { D.told.tells → ReceivesFor (links P.Link.gives P.Link.sent P.Link.faults) looks (P.did ports.old) (P.did ports.new) (O.written out.old) (O.faults out.old)
+    ensures receives { D.told.tells → ReceivesFor (links P.Link.gives P.Link.sent P.Link.faults) looks (P.did ports.old)
+        (P.did ports.new) (O.written out.old) (O.faults out.old)
         (D.told.reading disk) (D.told.reading result.disk) row.now result.end (O.written out.new) (O.faults out.new) }
-    ensures device { (role : DiskRole) → result.end ≡ ends.Failed role → Rose (D.told.count disk) (D.told.count result.disk) }
+    ensures device { (role : DiskRole) → result.end ≡ ends.Failed role
+        → Rose (D.told.count disk) (D.told.count result.disk) }
     ensures role { (role : DiskRole) → result.end ≡ ends.Failed role → role ≡ roles.Recv }
     ensures readable { result.end ≡ ends.Unread → ⊥ }
     ensures memory { result.end ≡ ends.Memory → out.new ≡ out.old }
@@ -122,11 +127,16 @@ fn receive_row<S: Shelf, P: Ports, O: Sink>(
     out: &mut O,
 ) -> CommandEnd
     requires lawful { IsLawfulRow row.now }
-    ensures receives { S.told.tells → S.Disk.told.tells → ReceivesFor (links P.Link.gives P.Link.sent P.Link.faults) looks (P.did ports.old) (P.did ports.new) (O.written out.old) (O.faults out.old)
-        (reading_at (S.told.disk shelf.old) row.now.id roles.Recv) (reading_at (S.told.disk shelf.new) row.now.id roles.Recv) row.now result (O.written out.new) (O.faults out.new) }
-    ensures others { LeavesOtherDisks (S.told.disk shelf.old) (S.told.disk shelf.new) (disk_name row.now.id roles.Recv) }
+    ensures receives { S.told.tells → S.Disk.told.tells
+        → ReceivesFor (links P.Link.gives P.Link.sent P.Link.faults) looks (P.did ports.old) (P.did ports.new)
+        (O.written out.old) (O.faults out.old)
+        (reading_at (S.told.disk shelf.old) row.now.id roles.Recv) (reading_at (S.told.disk shelf.new) row.now.id
+        roles.Recv) row.now result (O.written out.new) (O.faults out.new) }
+    ensures others { LeavesOtherDisks (S.told.disk shelf.old) (S.told.disk shelf.new)
+        (disk_name row.now.id roles.Recv) }
     ensures back { S.told.tells → AllAreBack (S.told.disk shelf.old) (S.told.disk shelf.new) }
-    ensures device { (role : DiskRole) → result ≡ ends.Failed role → RecvFailsAt S.told S.Disk.told shelf.old shelf.new row.now.id role }
+    ensures device { (role : DiskRole) → result ≡ ends.Failed role
+        → RecvFailsAt S.told S.Disk.told shelf.old shelf.new row.now.id role }
     ensures readable { result ≡ ends.Unread → ⊥ }
     ensures memory { result ≡ ends.Memory → out.new ≡ out.old }
     ensures unwritten { result ≡ ends.Unwritten → Rose (O.faults out.old) (O.faults out.new) }
@@ -152,13 +162,17 @@ fn run_receive<S: Shelf, P: Ports, O: Sink>(
     ports: &mut P,
     out: &mut O,
 ) -> CommandEnd
-    ensures comes { S.told.tells → S.Disk.told.tells → ReceiveComes (links P.Link.gives P.Link.sent P.Link.faults) looks (P.did ports.old) (P.did ports.new)
-        (O.written out.old) (O.faults out.old) (S.told.file shelf.old table.now) (S.told.disk shelf.old) (S.told.disk shelf.new) (RecvFailsAt S.told S.Disk.told shelf.old shelf.new) session result (O.written out.new) (O.faults out.new) }
+    ensures comes { S.told.tells → S.Disk.told.tells → ReceiveComes (links P.Link.gives P.Link.sent P.Link.faults) looks
+        (P.did ports.old) (P.did ports.new)
+        (O.written out.old) (O.faults out.old) (S.told.file shelf.old table.now) (S.told.disk shelf.old)
+        (S.told.disk shelf.new) (RecvFailsAt S.told S.Disk.told shelf.old shelf.new) session result (O.written out.new)
+        (O.faults out.new) }
     ensures back { S.told.tells → AllAreBack (S.told.disk shelf.old) (S.told.disk shelf.new) }
     ensures memory { result ≡ ends.Memory → Appends (O.written out.old) (O.written out.new) [] }
     ensures read { result ≡ ends.Unread → Rose (S.told.faults shelf.old) (S.told.faults shelf.new) }
     ensures unwritten { result ≡ ends.Unwritten → Rose (O.faults out.old) (O.faults out.new) }
-    ensures device { (role : DiskRole) → result ≡ ends.Failed role → RecvFailsAt S.told S.Disk.told shelf.old shelf.new session role }
+    ensures device { (role : DiskRole) → result ≡ ends.Failed role
+        → RecvFailsAt S.told S.Disk.told shelf.old shelf.new session role }
     ensures link { result ≡ ends.Unconnected → Rose (P.faults ports.old) (P.faults ports.new) }
     ensures later { O.faults out.old ≤ O.faults out.new }
 {
@@ -180,8 +194,12 @@ pub fn receive_session<S: Shelf, P: Ports, K, O: Sink>(
     high: &mut RelaySide<P, K>,
     out: &mut O,
 ) -> u8
-    ensures ends { S.told.tells → S.Disk.told.tells → EndsLive (ReceiveComes (links P.Link.gives P.Link.sent P.Link.faults) looks (P.did high.old.ports) (P.did high.new.ports)
-        (O.written out.old) (O.faults out.old) (S.told.file shelf.old table.now) (S.told.disk shelf.old) (S.told.disk shelf.new) (RecvFailsAt S.told S.Disk.told shelf.old shelf.new) session) (O.written out.new) (O.faults out.new) session result }
+    ensures ends { S.told.tells → S.Disk.told.tells
+        → EndsLive (ReceiveComes (links P.Link.gives P.Link.sent P.Link.faults) looks (P.did high.old.ports)
+        (P.did high.new.ports)
+        (O.written out.old) (O.faults out.old) (S.told.file shelf.old table.now) (S.told.disk shelf.old)
+        (S.told.disk shelf.new) (RecvFailsAt S.told S.Disk.told shelf.old shelf.new) session) (O.written out.new)
+        (O.faults out.new) session result }
     ensures back { S.told.tells → AllAreBack (S.told.disk shelf.old) (S.told.disk shelf.new) }
     ensures memory { result ≡ 1 → Appends (O.written out.old) (O.written out.new) [] }
     ensures read { result ≡ 3 → Rose (S.told.faults shelf.old) (S.told.faults shelf.new) }

@@ -38,7 +38,8 @@ fn send_over<P: Ports, I: Source, O: Sink>(
     script: &mut I,
     out: &mut O,
 ) -> CommandEnd
-    ensures sends { SendsFor (links P.Link.gives P.Link.sent P.Link.faults) looks (P.did ports.old) (P.did ports.new) (I.left script.old) (I.left script.new) (I.faults script.old) (I.faults script.new)
+    ensures sends { SendsFor (links P.Link.gives P.Link.sent P.Link.faults) looks (P.did ports.old) (P.did ports.new)
+        (I.left script.old) (I.left script.new) (I.faults script.old) (I.faults script.new)
         (O.written out.old) (O.faults out.old) row.now result (O.written out.new) (O.faults out.new) }
     ensures read { result ≡ ends.Unread → Rose (I.faults script.old) (I.faults script.new) }
     ensures memory { result ≡ ends.Memory → ⊥ }
@@ -67,11 +68,15 @@ fn run_send<S: Shelf, P: Ports, I: Source, O: Sink>(
     script: &mut I,
     out: &mut O,
 ) -> CommandEnd
-    ensures comes { S.told.tells → SendComes (links P.Link.gives P.Link.sent P.Link.faults) looks (P.did ports.old) (P.did ports.new)
-        (I.left script.old) (I.left script.new) (I.faults script.old) (I.faults script.new) (O.written out.old) (O.faults out.old) (S.told.file shelf.old table.now) (S.told.faults shelf.old) (S.told.faults shelf.new) session result (O.written out.new) (O.faults out.new) }
+    ensures comes { S.told.tells → SendComes (links P.Link.gives P.Link.sent P.Link.faults) looks (P.did ports.old)
+        (P.did ports.new)
+        (I.left script.old) (I.left script.new) (I.faults script.old) (I.faults script.new) (O.written out.old)
+        (O.faults out.old) (S.told.file shelf.old table.now) (S.told.faults shelf.old) (S.told.faults shelf.new) session
+        result (O.written out.new) (O.faults out.new) }
     ensures disks { S.told.disk shelf.new ≡ S.told.disk shelf.old }
     ensures memory { result ≡ ends.Memory → Appends (O.written out.old) (O.written out.new) [] }
-    ensures read { result ≡ ends.Unread → Rose (I.faults script.old) (I.faults script.new) ⊎ Rose (S.told.faults shelf.old) (S.told.faults shelf.new) }
+    ensures read { result ≡ ends.Unread → Rose (I.faults script.old) (I.faults script.new)
+        ⊎ Rose (S.told.faults shelf.old) (S.told.faults shelf.new) }
     ensures unwritten { result ≡ ends.Unwritten → Rose (O.faults out.old) (O.faults out.new) }
     ensures disk { IsNoDiskEnd result }
     ensures link { result ≡ ends.Unconnected → Rose (P.faults ports.old) (P.faults ports.new) }
@@ -96,11 +101,15 @@ pub fn send_session<S: Shelf, P: Ports, K, I: Source, O: Sink>(
     script: &mut I,
     out: &mut O,
 ) -> u8
-    ensures ends { S.told.tells → EndsLive (SendComes (links P.Link.gives P.Link.sent P.Link.faults) looks (P.did low.old.ports) (P.did low.new.ports)
-        (I.left script.old) (I.left script.new) (I.faults script.old) (I.faults script.new) (O.written out.old) (O.faults out.old) (S.told.file shelf.old table.now) (S.told.faults shelf.old) (S.told.faults shelf.new) session) (O.written out.new) (O.faults out.new) session result }
+    ensures ends { S.told.tells → EndsLive (SendComes (links P.Link.gives P.Link.sent P.Link.faults) looks
+        (P.did low.old.ports) (P.did low.new.ports)
+        (I.left script.old) (I.left script.new) (I.faults script.old) (I.faults script.new) (O.written out.old)
+        (O.faults out.old) (S.told.file shelf.old table.now) (S.told.faults shelf.old) (S.told.faults shelf.new)
+        session) (O.written out.new) (O.faults out.new) session result }
     ensures disks { S.told.disk shelf.new ≡ S.told.disk shelf.old }
     ensures memory { result ≡ 1 → Appends (O.written out.old) (O.written out.new) [] }
-    ensures read { result ≡ 3 → Rose (I.faults script.old) (I.faults script.new) ⊎ Rose (S.told.faults shelf.old) (S.told.faults shelf.new) }
+    ensures read { result ≡ 3 → Rose (I.faults script.old) (I.faults script.new)
+        ⊎ Rose (S.told.faults shelf.old) (S.told.faults shelf.new) }
     ensures unwritten { result ≡ 4 → Rose (O.faults out.old) (O.faults out.new) }
     ensures disk { (result ≡ 7 → ⊥) × (result ≡ 8 → ⊥) }
     ensures link { result ≡ 9 → Rose (P.faults low.old.ports) (P.faults low.new.ports) }

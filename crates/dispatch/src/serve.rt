@@ -11,7 +11,8 @@ ghost use Rattle.script_replay.specs.Shelves.{AllAreBack};
 ghost use Rattle.serving.specs.Doors.{doors, links};
 ghost use Rattle.dispatch.specs.LiveEnds.{EndsLive};
 ghost use Rattle.commands.specs.LentDisks.{LeavesBut};
-ghost use Rattle.dispatch.specs.Servings.{disks, file, source, end_of_workers, end_of_session, ServesWith, ServesFor, ServeComes};
+ghost use Rattle.dispatch.specs.Servings.{disks, file, source, end_of_workers, end_of_session, ServesWith, ServesFor};
+ghost use Rattle.dispatch.specs.Servings.{ServeComes};
 ghost use Rattle.commands.specs.declared.command_end.CommandEnd.TheVariants as ends;
 
 use command_line::TableName;
@@ -75,16 +76,20 @@ where
     P::Link: Send,
     P::Door: Send,
     requires lawful { IsLawfulRow row.now }
-    ensures serves { ServesWith (doors P.Door.port P.Door.did P.Door.gives (links P.Link.gives P.Link.sent P.Link.faults)) looks
-        (side P.did P.faults K.reads low.old low.new) (side P.did P.faults K.reads high.old high.new) (disks S.told S.Disk.told shelf.old shelf.new) (O.written out.old) (O.faults out.old)
+    ensures serves { ServesWith (doors P.Door.port P.Door.did P.Door.gives (links P.Link.gives P.Link.sent
+        P.Link.faults)) looks
+        (side P.did P.faults K.reads low.old low.new) (side P.did P.faults K.reads high.old high.new)
+        (disks S.told S.Disk.told shelf.old shelf.new) (O.written out.old) (O.faults out.old)
         row.now key result (O.written out.new) (O.faults out.new) }
     ensures others { LeavesBut (S.told.disk shelf.old) (S.told.disk shelf.new) row.now.id }
     ensures readable { result ≡ ends.Unread → ⊥ }
     ensures back { S.told.tells → AllAreBack (S.told.disk shelf.old) (S.told.disk shelf.new) }
     ensures memory { result ≡ ends.Memory → Appends (O.written out.old) (O.written out.new) [] }
     ensures unwritten { result ≡ ends.Unwritten → Rose (O.faults out.old) (O.faults out.new) }
-    ensures device { (role : DiskRole) → result ≡ ends.Failed role → FailsAt S.told S.Disk.told shelf.old shelf.new row.now.id role }
-    ensures link { result ≡ ends.Unconnected → Rose (P.faults low.old.ports) (P.faults low.new.ports) ⊎ Rose (P.faults high.old.ports) (P.faults high.new.ports) }
+    ensures device { (role : DiskRole) → result ≡ ends.Failed role
+        → FailsAt S.told S.Disk.told shelf.old shelf.new row.now.id role }
+    ensures link { result ≡ ends.Unconnected → Rose (P.faults low.old.ports) (P.faults low.new.ports)
+        ⊎ Rose (P.faults high.old.ports) (P.faults high.new.ports) }
     ensures later { O.faults out.old ≤ O.faults out.new }
 {
     let disks = match take_pair(shelf, row.id) {
@@ -124,16 +129,21 @@ where
     P::Link: Send,
     P::Door: Send,
     requires lawful { IsLawfulRow row.now }
-    ensures serves { ServesFor (doors P.Door.port P.Door.did P.Door.gives (links P.Link.gives P.Link.sent P.Link.faults)) looks
-        (side P.did P.faults K.reads low.old low.new) (side P.did P.faults K.reads high.old high.new) (disks S.told S.Disk.told shelf.old shelf.new) (O.written out.old) (O.faults out.old)
+    ensures serves { ServesFor (doors P.Door.port P.Door.did P.Door.gives (links P.Link.gives P.Link.sent
+        P.Link.faults)) looks
+        (side P.did P.faults K.reads low.old low.new) (side P.did P.faults K.reads high.old high.new)
+        (disks S.told S.Disk.told shelf.old shelf.new) (O.written out.old) (O.faults out.old)
         (source Q.left Q.faults keys.old keys.new) row.now result (O.written out.new) (O.faults out.new) }
     ensures others { LeavesBut (S.told.disk shelf.old) (S.told.disk shelf.new) row.now.id }
-    ensures read { result ≡ ends.Unread → Rose (Q.faults keys.old) (Q.faults keys.new) ⊎ IfSome (Q.left keys.old) (λ bytes. length bytes < 32) }
+    ensures read { result ≡ ends.Unread → Rose (Q.faults keys.old) (Q.faults keys.new)
+        ⊎ IfSome (Q.left keys.old) (λ bytes. length bytes < 32) }
     ensures back { S.told.tells → AllAreBack (S.told.disk shelf.old) (S.told.disk shelf.new) }
     ensures memory { result ≡ ends.Memory → Appends (O.written out.old) (O.written out.new) [] }
     ensures unwritten { result ≡ ends.Unwritten → Rose (O.faults out.old) (O.faults out.new) }
-    ensures device { (role : DiskRole) → result ≡ ends.Failed role → FailsAt S.told S.Disk.told shelf.old shelf.new row.now.id role }
-    ensures link { result ≡ ends.Unconnected → Rose (P.faults low.old.ports) (P.faults low.new.ports) ⊎ Rose (P.faults high.old.ports) (P.faults high.new.ports) }
+    ensures device { (role : DiskRole) → result ≡ ends.Failed role
+        → FailsAt S.told S.Disk.told shelf.old shelf.new row.now.id role }
+    ensures link { result ≡ ends.Unconnected → Rose (P.faults low.old.ports) (P.faults low.new.ports)
+        ⊎ Rose (P.faults high.old.ports) (P.faults high.new.ports) }
     ensures later { O.faults out.old ≤ O.faults out.new }
 {
     match read_key(keys) {
@@ -168,16 +178,21 @@ where
     S::Disk: Send,
     P::Link: Send,
     P::Door: Send,
-    ensures comes { ServeComes (doors P.Door.port P.Door.did P.Door.gives (links P.Link.gives P.Link.sent P.Link.faults)) looks
-        (side P.did P.faults K.reads low.old low.new) (side P.did P.faults K.reads high.old high.new) (disks S.told S.Disk.told shelf.old shelf.new) (O.written out.old) (O.faults out.old)
-        (source Q.left Q.faults keys.old keys.new) (file S.told shelf.old shelf.new table.now) (FailsAt S.told S.Disk.told shelf.old shelf.new) session result (O.written out.new) (O.faults out.new) }
+    ensures comes { ServeComes (doors P.Door.port P.Door.did P.Door.gives (links P.Link.gives P.Link.sent
+        P.Link.faults)) looks
+        (side P.did P.faults K.reads low.old low.new) (side P.did P.faults K.reads high.old high.new)
+        (disks S.told S.Disk.told shelf.old shelf.new) (O.written out.old) (O.faults out.old)
+        (source Q.left Q.faults keys.old keys.new) (file S.told shelf.old shelf.new table.now)
+        (FailsAt S.told S.Disk.told shelf.old shelf.new) session result (O.written out.new) (O.faults out.new) }
     ensures read { result ≡ ends.Unread → Rose (S.told.faults shelf.old) (S.told.faults shelf.new)
         ⊎ (Rose (Q.faults keys.old) (Q.faults keys.new) ⊎ IfSome (Q.left keys.old) (λ bytes. length bytes < 32)) }
     ensures back { S.told.tells → AllAreBack (S.told.disk shelf.old) (S.told.disk shelf.new) }
     ensures memory { result ≡ ends.Memory → Appends (O.written out.old) (O.written out.new) [] }
     ensures unwritten { result ≡ ends.Unwritten → Rose (O.faults out.old) (O.faults out.new) }
-    ensures device { (role : DiskRole) → result ≡ ends.Failed role → FailsAt S.told S.Disk.told shelf.old shelf.new session role }
-    ensures link { result ≡ ends.Unconnected → Rose (P.faults low.old.ports) (P.faults low.new.ports) ⊎ Rose (P.faults high.old.ports) (P.faults high.new.ports) }
+    ensures device { (role : DiskRole) → result ≡ ends.Failed role
+        → FailsAt S.told S.Disk.told shelf.old shelf.new session role }
+    ensures link { result ≡ ends.Unconnected → Rose (P.faults low.old.ports) (P.faults low.new.ports)
+        ⊎ Rose (P.faults high.old.ports) (P.faults high.new.ports) }
     ensures later { O.faults out.old ≤ O.faults out.new }
 {
     match row_in_file(alloc, shelf, table.as_str(), session) {
@@ -215,16 +230,21 @@ where
     S::Disk: Send,
     P::Link: Send,
     P::Door: Send,
-    ensures ends { EndsLive (ServeComes (doors P.Door.port P.Door.did P.Door.gives (links P.Link.gives P.Link.sent P.Link.faults)) looks
-        (side P.did P.faults K.reads low.old low.new) (side P.did P.faults K.reads high.old high.new) (disks S.told S.Disk.told shelf.old shelf.new) (O.written out.old) (O.faults out.old)
-        (source Q.left Q.faults keys.old keys.new) (file S.told shelf.old shelf.new table.now) (FailsAt S.told S.Disk.told shelf.old shelf.new) session) (O.written out.new) (O.faults out.new) session result }
+    ensures ends { EndsLive (ServeComes (doors P.Door.port P.Door.did P.Door.gives (links P.Link.gives P.Link.sent
+        P.Link.faults)) looks
+        (side P.did P.faults K.reads low.old low.new) (side P.did P.faults K.reads high.old high.new)
+        (disks S.told S.Disk.told shelf.old shelf.new) (O.written out.old) (O.faults out.old)
+        (source Q.left Q.faults keys.old keys.new) (file S.told shelf.old shelf.new table.now)
+        (FailsAt S.told S.Disk.told shelf.old shelf.new) session) (O.written out.new) (O.faults out.new) session
+        result }
     ensures back { S.told.tells → AllAreBack (S.told.disk shelf.old) (S.told.disk shelf.new) }
     ensures memory { result ≡ 1 → Appends (O.written out.old) (O.written out.new) [] }
     ensures read { result ≡ 3 → Rose (S.told.faults shelf.old) (S.told.faults shelf.new)
         ⊎ (Rose (Q.faults keys.old) (Q.faults keys.new) ⊎ IfSome (Q.left keys.old) (λ bytes. length bytes < 32)) }
     ensures unwritten { result ≡ 4 → Rose (O.faults out.old) (O.faults out.new) }
     ensures device { result ≡ 7 → Rose (S.told.disk_faults shelf.old) (S.told.disk_faults shelf.new) }
-    ensures link { result ≡ 9 → Rose (P.faults low.old.ports) (P.faults low.new.ports) ⊎ Rose (P.faults high.old.ports) (P.faults high.new.ports) }
+    ensures link { result ≡ 9 → Rose (P.faults low.old.ports) (P.faults low.new.ports)
+        ⊎ Rose (P.faults high.old.ports) (P.faults high.new.ports) }
     ensures words { result ≡ 2 → ⊥ }
 {
     let end = run_serve(

@@ -9,7 +9,8 @@ use std::test::Fail;
 use std::thread::Threads;
 
 const TABLE: &str =
-    "[[session]]\nid = 1\nlow = \"weather\"\nhigh = \"watch\"\ncapacity = 3\nmessage = 8\nwindow = 2\nstart = 20000\nlongest = 100000\nresend = 500000\nlow_port = 7001\nhigh_port = 7002\n";
+    "[[session]]\nid = 1\nlow = \"weather\"\nhigh = \"watch\"\ncapacity = 3\nmessage = 8\nwindow = 2\n\
+    start = 20000\nlongest = 100000\nresend = 500000\nlow_port = 7001\nhigh_port = 7002\n";
 
 const HELLO: &[u8] = b"NP\x01\x01\0\0\0\x01\0\0\0\0\0\0\0\0\0\x0dweather:watch";
 

@@ -5,7 +5,7 @@ use Rattle.std.specs.List.{flat_map, sum_by}
 use Rattle.pump_frame.specs.Delays.{delay_of}
 use Rattle.pump_frame.specs.declared.frame.Kind.{Kind}
 use Rattle.pump_frame.specs.declared.frame.Kind.TheVariants.{Ack}
-use Rattle.pump_link.specs.Causes.{AppendsFront}
+use Rattle.pump_link.specs.Causes.{AppendsPrefix}
 use Rattle.script_reader.specs.declared.event.Event.{Event}
 use Rattle.script_reader.specs.declared.event.Event.TheVariants.{Full, Passed, Low, Removed}
 use Rattle.script_reader.specs.declared.line.Line.{Line}
@@ -20,7 +20,8 @@ use Rattle.script_reader.specs.Transcript.{line_with_end}
 -- these lines, one after another, print these lists of events, and lead from `running` to `after`
 abbrev pub LeadEach : Openings → Option Begun → List Line → List (List Event) → Option Begun → Type 0
 LeadEach o running [] [] after = after ≡ running
-LeadEach o running (line ∷ lines) (printed ∷ later) after = (mid : Option Begun) × Leads o running line mid printed × LeadEach o mid lines later after
+LeadEach o running (line ∷ lines) (printed ∷ later) after = (mid : Option Begun) × Leads o running line mid printed
+    × LeadEach o mid lines later after
 LeadEach o running [] (printed ∷ later) after = ⊥
 LeadEach o running (line ∷ lines) [] after = ⊥
 
@@ -86,9 +87,10 @@ pub record IsSummary (seed count : ℕ) (bytes : List ℕ) : Type 0 where
   pub transcript : IsTranscript new_disks (generated seed count) (in_all printed ++ last)
   pub bytes_are : bytes ≡ summary_of seed count (generated seed count) printed
 
--- how an exercise ends, by its status: the summary was written, or nothing for want of memory, or a front of the summary
+-- how an exercise ends, by its status: the summary was written, or nothing for want of memory, or a prefix of the
+-- summary
 abbrev pub EndsExercise : ℕ → ℕ → Option (List ℕ) → Option (List ℕ) → ℕ → Type 0
 EndsExercise seed count old new status =
     ((status ≡ 0) × ((summary : List ℕ) × IsSummary seed count summary × Appends old new summary))
     ⊎ (((status ≡ 1) × Appends old new [])
-    ⊎ ((status ≡ 4) × ((summary : List ℕ) × IsSummary seed count summary × AppendsFront old new summary)))
+    ⊎ ((status ≡ 4) × ((summary : List ℕ) × IsSummary seed count summary × AppendsPrefix old new summary)))

@@ -1,5 +1,6 @@
 -- An exercise between two lines. It serves the private functions and the proofs.
-use Rattle.std.specs.Prelude.{◌≡◌, ℕ, ◌+◌, ◌*◌, ◌≤◌, true, false, List, [], ◌∷◌, ◌++◌, length, codes, decimal, None, Some}
+use Rattle.std.specs.Prelude.{◌≡◌, ℕ, ◌+◌, ◌*◌, ◌≤◌, true, false, List, [], ◌∷◌, ◌++◌, length, codes, decimal, None}
+use Rattle.std.specs.Prelude.{Some}
 use Rattle.std.specs.List.{sum_by}
 use Rattle.disk_model.specs.Plain.{Plain, plain_meaning}
 use Rattle.disk_model.specs.declared.name.Role.TheVariants as roles
@@ -16,7 +17,8 @@ use Rattle.two_worlds.specs.declared.pump.Pump.{Pump}
 use Rattle.two_worlds.specs.Pumps.{row_of, StandsFor, is_down, disk_at}
 use Rattle.two_worlds.specs.Rooms.{HasRoom}
 use Rattle.exercises.specs.declared.exercising.Tally.{Tally}
-use Rattle.exercises.specs.Exercises.{LeadEach, in_all, look_word, look_count, ack_count, full_count, removal_count, delay_in, delays_in}
+use Rattle.exercises.specs.Exercises.{LeadEach, in_all, look_word, look_count, ack_count, full_count, removal_count}
+use Rattle.exercises.specs.Exercises.{delay_in, delays_in}
 
 -- the tally after a line's events: they add what they count
 pub record AddsEvents (old new : Tally) (word : ℕ) (events : List Event) : Type 0 where
@@ -67,26 +69,30 @@ CannotFail pump = (is_down pump ≡ false) × (row_of pump ≡ generated_row)
     × HasRoom plain_meaning generated_row (disk_at roles.Low pump) (disk_at roles.High pump) (disk_at roles.Recv pump)
 
 abbrev pub IsUnderWay : {g : _} → ℕ → ℕ → Pump Plain g → Tally → List Line → Type 0
-IsUnderWay seed count pump tally left = CannotFail pump × ((past : Past) × StandsFor plain_meaning pump past × HasApplied seed count past tally left)
+IsUnderWay seed count pump tally left = CannotFail pump × ((past : Past) × StandsFor plain_meaning pump past
+    × HasApplied seed count past tally left)
 
 -- the line can be applied, and its message does not overfill the receiver's disk
 pub record CanGo (past : Past) (line : Line) : Type 0 where
   pub timely : is_timely generated_row past line ≡ true
   pub room : IsCrowded past line → ⊥
-  pub fits : (q : Past) (printed : List Event) (end length size : ℕ) → Overfills generated_row past line q printed end length size → ⊥
+  pub fits : (q : Past) (printed : List Event) (end length size : ℕ)
+      → Overfills generated_row past line q printed end length size → ⊥
 
 abbrev pub CanGoOn : {g : _} → Pump Plain g → Line → Type 0
 CanGoOn pump line = (past : Past) × StandsFor plain_meaning pump past × CanGo past line
 
 -- the line led from a past to what the pump stands for, and printed this
 abbrev pub LeadsPump : {g : _} → Past → Line → List Event → Pump Plain g → Type 0
-LeadsPump past line printed pump = (q : Past) × LineStep generated_row past line q printed × StandsFor plain_meaning pump q
+LeadsPump past line printed pump = (q : Past) × LineStep generated_row past line q printed
+    × StandsFor plain_meaning pump q
 
 -- the generated script was run over new disks, and the tally has counted it
 pub record HasRun (seed count : ℕ) (tally : Tally) : Type 0 where
   pub past : Past
   pub printed : List (List Event)
-  pub each : LeadEach new_disks None (generated seed count) printed (Some (Whole (record { row = generated_row; past = past })))
+  pub each : LeadEach new_disks None (generated seed count) printed
+      (Some (Whole (record { row = generated_row; past = past })))
   pub counted : HasCounted tally (generated seed count) printed
 
 -- the summary line with the tally's numbers

@@ -4,7 +4,7 @@ ghost use Rattle.std.specs.Prelude.{◌≡◌, ℕ, ◌+◌, ◌*◌, ◌^◌, �
 ghost use Rattle.std.specs.Io.KnownBytes.{Appends};
 ghost use Rattle.disk_model.specs.Plain.{plain_meaning};
 ghost use Rattle.pump_frame.specs.Counts.{Rose};
-ghost use Rattle.pump_link.specs.Causes.{AppendsFront};
+ghost use Rattle.pump_link.specs.Causes.{AppendsPrefix};
 ghost use Rattle.std.specs.String.{string_bytes};
 ghost use Rattle.script_reader.specs.declared.fault.Fault.{Fault};
 ghost use Rattle.script_reader.specs.EventHeads.{event_of};
@@ -16,7 +16,8 @@ ghost use Rattle.script_reader.specs.Past.{Past};
 ghost use Rattle.two_worlds.specs.Printing.{lines_in};
 ghost use Rattle.two_worlds.specs.Pumps.{StandsFor};
 ghost use Rattle.exercises.specs.Exercises.{look_word, look_count, IsSummary};
-ghost use Rattle.exercises.specs.Exercising.{AddsEvents, Counts, IsAtMost, CannotFail, CanGoOn, LeadsPump, HasRun, tally_line};
+ghost use Rattle.exercises.specs.Exercising.{AddsEvents, Counts, IsAtMost, CannotFail, CanGoOn, LeadsPump, HasRun};
+ghost use Rattle.exercises.specs.Exercising.{tally_line};
 
 use arrayvec::ArrayVec;
 use delay_table::delay;
@@ -179,7 +180,8 @@ fn apply(
     requires ready { CannotFail pump.old }
     requires can { CanGoOn pump.old (line_with bytes.now line.now) }
     ensures ready { CannotFail pump.new }
-    ensures leads { (past : Past) → StandsFor plain_meaning pump.old past → LeadsPump past (line_with bytes.now line.now) (lines_in events.new.items) pump.new }
+    ensures leads { (past : Past) → StandsFor plain_meaning pump.old past
+        → LeadsPump past (line_with bytes.now line.now) (lines_in events.new.items) pump.new }
 {
     match pump.apply_head(line, bytes, events) {
         None => {}
@@ -213,10 +215,12 @@ fn run(alloc: Global, seed: u32, count: u32) -> Result<Tally, OutOfMemory>
 pub fn exercise<O: Sink>(alloc: Global, seed: u32, count: u32, out: &mut O) -> Ended
     requires some { 1 ≤ count }
     requires few { count ≤ 100000 }
-    ensures done { result ≡ Ended.Done → (summary : List ℕ) × IsSummary seed count summary × Appends (O.written out.old) (O.written out.new) summary }
+    ensures done { result ≡ Ended.Done → (summary : List ℕ) × IsSummary seed count summary
+        × Appends (O.written out.old) (O.written out.new) summary }
     ensures memory { result ≡ Ended.Memory → out.new ≡ out.old }
     ensures write { result ≡ Ended.Write → Rose (O.faults out.old) (O.faults out.new)
-        × ((summary : List ℕ) × IsSummary seed count summary × AppendsFront (O.written out.old) (O.written out.new) summary) }
+        × ((summary : List ℕ) × IsSummary seed count summary
+        × AppendsPrefix (O.written out.old) (O.written out.new) summary) }
     ensures other { (fault : Fault) → result ≡ Ended.Stopped fault → ⊥ }
 {
     let Ok(tally) = run(alloc, seed, count) else {

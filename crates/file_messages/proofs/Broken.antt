@@ -47,10 +47,10 @@ all_given_up zero state = ap (after state) abandons ∙ given_up state
 all_given_up (suc more) state = all_given_up more (after state (message_of abandon_message))
 
 pub broken_none : (message : ℕ) (file : File) (messages : List (List ℕ)) → IsBrokenCut message file messages → files messages ≡ []
-broken_none message file messages (front, rest, more, e, is) =
-    let none = all_before NoEnd front rest (subst (AllByRecursion NoEnd) e (no_end_begun message file)) in
-    ap files is ∙ none_given Between (front ++ replicate (suc more) abandon_message) (all_behind NoEnd front (replicate (suc more) abandon_message) none (no_end_given_up (suc more)))
+broken_none message file messages (prefix, rest, more, e, is) =
+    let none = all_before NoEnd prefix rest (subst (AllByRecursion NoEnd) e (no_end_begun message file)) in
+    ap files is ∙ none_given Between (prefix ++ replicate (suc more) abandon_message) (all_behind NoEnd prefix (replicate (suc more) abandon_message) none (no_end_given_up (suc more)))
 
 pub broken_between : (message : ℕ) (file : File) (messages : List (List ℕ)) → IsBrokenCut message file messages → state_after Between messages ≡ Between
-broken_between message file messages (front, rest, more, e, is) =
-    ap (state_after Between) is ∙ state_on Between front (replicate (suc more) abandon_message) ∙ all_given_up more (state_after Between front)
+broken_between message file messages (prefix, rest, more, e, is) =
+    ap (state_after Between) is ∙ state_on Between prefix (replicate (suc more) abandon_message) ∙ all_given_up more (state_after Between prefix)

@@ -51,12 +51,12 @@ some_first message f fs messages rest some e =
 -- all of it, and more
 whole_first : (message : ℕ) (f : File) (fs : List File) (messages more : Messages) → 2 ≤ message → IsLawfulFile f → messages ≡ cut message f ++ more → IsFirst message fs more
     → IsFirst message (f ∷ fs) messages
-whole_first message f fs messages more two lawful is (whole, left, part, all, front, begins, gives) = (
+whole_first message f fs messages more two lawful is (whole, left, part, all, prefix, begins, gives) = (
   f ∷ whole,
   left,
   part,
   ap (λ (l : List File). f ∷ l) all,
-  is ∙ ap (λ (l : Messages). cut message f ++ l) front ∙ sym (append_assoc (cut message f) (cut_all message whole) part),
+  is ∙ ap (λ (l : Messages). cut message f ++ l) prefix ∙ sym (append_assoc (cut message f) (cut_all message whole) part),
   begins,
   ap files is ∙ files_behind message f more two lawful ∙ ap (λ (l : List File). f ∷ l) gives,
 )

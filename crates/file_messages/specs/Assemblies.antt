@@ -7,7 +7,8 @@ use Rattle.file_messages.specs.declared.assembly.Assembly.{Assembly}
 use Rattle.file_messages.specs.declared.assembly.Part.{Part}
 use Rattle.file_messages.specs.declared.assembly.Progress.{Progress}
 use Rattle.file_messages.specs.declared.assembly.Cause.{Cause}
-use Rattle.file_messages.specs.declared.assembly.Cause.TheVariants.{Abandoned, Begun, TooLong, TooShort, Digest, Unknown}
+use Rattle.file_messages.specs.declared.assembly.Cause.TheVariants.{Abandoned, Begun, TooLong, TooShort, Digest}
+use Rattle.file_messages.specs.declared.assembly.Cause.TheVariants.{Unknown}
 use Rattle.file_messages.specs.declared.assembly.Step.{Step}
 use Rattle.file_messages.specs.declared.assembly.Step.TheVariants.{Started, Grown, Whole, Dropped, Odd}
 

@@ -33,8 +33,8 @@ cut_all message files = flat_map (cut message) files
 -- a file is cut off: nothing or some first messages of it without its end, and then one message or
 -- more that give it up
 abbrev pub IsBrokenCut : ℕ → File → List (List ℕ) → Type 0
-IsBrokenCut message file messages = (front rest : List (List ℕ)) × (more : ℕ)
-    × (begun message file ≡ front ++ rest) × (messages ≡ front ++ replicate (suc more) abandon_message)
+IsBrokenCut message file messages = (prefix rest : List (List ℕ)) × (more : ℕ)
+    × (begun message file ≡ prefix ++ rest) × (messages ≡ prefix ++ replicate (suc more) abandon_message)
 
 -- the first messages of the next file, without its end
 abbrev pub BeginsNext : ℕ → List File → List (List ℕ) → Type 0

@@ -1,5 +1,6 @@
 -- The files that messages give.
-use Rattle.std.specs.Prelude.{ℕ, ◌+◌, ◌^◌, ◌<◌, nat_le, ◌==◌, ◌&&◌, Bool, if◌then◌else◌, List, [], ◌∷◌, ◌++◌, length, bytes_eq}
+use Rattle.std.specs.Prelude.{ℕ, ◌+◌, ◌^◌, ◌<◌, nat_le, ◌==◌, ◌&&◌, Bool, if◌then◌else◌, List, [], ◌∷◌, ◌++◌, length}
+use Rattle.std.specs.Prelude.{bytes_eq}
 use Rattle.sha2.specs.Sha256.{sha256}
 use Rattle.file_messages.specs.FileNames.{IsFileName}
 use Rattle.file_messages.specs.Messages.{Message, Start, Piece, End, message_of}

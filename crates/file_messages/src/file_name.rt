@@ -1,7 +1,8 @@
 // The name of a file that goes from folder to folder.
 ghost use Rattle.std.specs.Prelude.{◌≡◌, ◌≤◌, ◌↔◌, length, IsSome, IsTrue, IfSome};
 ghost use Rattle.std.specs.List.{list_all};
-ghost use Rattle.file_messages.specs.FileNames.{is_name_byte, is_middle_mark, is_other_mark, begins_plainly, ends_plainly, is_file_name, IsFileName};
+ghost use Rattle.file_messages.specs.FileNames.{is_name_byte, is_middle_mark, is_other_mark, begins_plainly};
+ghost use Rattle.file_messages.specs.FileNames.{ends_plainly, is_file_name, IsFileName};
 
 use std::marker::Model;
 use std::str;
@@ -25,7 +26,8 @@ impl Model for FileName {
     ghost view = { λ s. take s.len s.cells };
 
     // What lies past the bytes is zero, so that equal names have equal cells.
-    ghost invariant = { λ s. (s.len ≤ 128) × (length s.cells ≡ 128) × (drop s.len s.cells ≡ replicate (128 - s.len) 0) × IsFileName (take s.len s.cells) };
+    ghost invariant = { λ s. (s.len ≤ 128) × (length s.cells ≡ 128) × (drop s.len s.cells ≡ replicate (128 - s.len) 0)
+        × IsFileName (take s.len s.cells) };
 
     ghost inverse = { λ bytes. record { cells = bytes ++ replicate (128 - length bytes) 0; len = length bytes } };
 

@@ -14,30 +14,30 @@ use Rattle.hex.specs.Hex.{IsBytes, encode_lower, is_hex_digit, lower_digits}
 use Rattle.hex.proofs.HexLemmas.{decode_of-ok, decode_of-encode_lower}
 use Rattle.folders.specs.Finding.{is_dash, IsFree}
 
-dash_at : (front back : List ℕ) → IsFree front → position_or_len is_dash (front ++ 45 ∷ back) ≡ length front
+dash_at : (prefix back : List ℕ) → IsFree prefix → position_or_len is_dash (prefix ++ 45 ∷ back) ≡ length prefix
 dash_at [] back free = refl
-dash_at (b ∷ front) back free =
-    let first : is_dash b ≡ false = All-head (λ x. is_dash x ≡ false) b front free in
-    rw (first, dash_at front back (All-tail (λ x. is_dash x ≡ false) b front free)) (omega arith)
+dash_at (b ∷ prefix) back free =
+    let first : is_dash b ≡ false = All-head (λ x. is_dash x ≡ false) b prefix free in
+    rw (first, dash_at prefix back (All-tail (λ x. is_dash x ≡ false) b prefix free)) (omega arith)
 
-pub first_dash : (front back : List ℕ) → IsFree front → position is_dash (front ++ 45 ∷ back) ≡ Some (length front)
-first_dash front back free =
-    rw (dash_at front back free, lt-ltb (length front) (length (front ++ 45 ∷ back)) (omega (arith, length-append front (45 ∷ back)))) refl
+pub first_dash : (prefix back : List ℕ) → IsFree prefix → position is_dash (prefix ++ 45 ∷ back) ≡ Some (length prefix)
+first_dash prefix back free =
+    rw (dash_at prefix back free, lt-ltb (length prefix) (length (prefix ++ 45 ∷ back)) (omega (arith, length-append prefix (45 ∷ back)))) refl
 
 -- what stands before it, and what behind it
-pub parts_at : (text front back : List ℕ) (at : ℕ) → Some at ≡ position is_dash text → IsFree front → text ≡ front ++ 45 ∷ back
-    → (take at text ≡ front) × (take (length text - (at + 1)) (drop (at + 1) text) ≡ back)
-parts_at text front back at is free shape =
-    let found : Some at ≡ Some (length front) = is ∙ ap (position is_dash) shape ∙ first_dash front back free in
-    let place : at ≡ length front = cc in
+pub parts_at : (text prefix back : List ℕ) (at : ℕ) → Some at ≡ position is_dash text → IsFree prefix → text ≡ prefix ++ 45 ∷ back
+    → (take at text ≡ prefix) × (take (length text - (at + 1)) (drop (at + 1) text) ≡ back)
+parts_at text prefix back at is free shape =
+    let found : Some at ≡ Some (length prefix) = is ∙ ap (position is_dash) shape ∙ first_dash prefix back free in
+    let place : at ≡ length prefix = cc in
     let behind : drop (at + 1) text ≡ back =
-    rw (shape, ← append_assoc front (45 ∷ []) back) (drop_at (front ++ 45 ∷ []) back (at + 1) (rw (length-append front (45 ∷ [])) (omega (arith, place)))) in
-    let rest : length text - (at + 1) ≡ length back = omega (arith, place, ap length shape, length-append front (45 ∷ back)) in
-    (rw shape (take_at front (45 ∷ back) at (sym place)), rw (behind, rest) (take_all (length back) back (omega arith)))
+    rw (shape, ← append_assoc prefix (45 ∷ []) back) (drop_at (prefix ++ 45 ∷ []) back (at + 1) (rw (length-append prefix (45 ∷ [])) (omega (arith, place)))) in
+    let rest : length text - (at + 1) ≡ length back = omega (arith, place, ap length shape, length-append prefix (45 ∷ back)) in
+    (rw shape (take_at prefix (45 ∷ back) at (sym place)), rw (behind, rest) (take_all (length back) back (omega arith)))
 
-pub some_dash : (text front back : List ℕ) → None ≡ position is_dash text → IsFree front → text ≡ front ++ 45 ∷ back → ⊥
-some_dash text front back none free shape =
-    let found : None ≡ Some (length front) = none ∙ ap (position is_dash) shape ∙ first_dash front back free in cc
+pub some_dash : (text prefix back : List ℕ) → None ≡ position is_dash text → IsFree prefix → text ≡ prefix ++ 45 ∷ back → ⊥
+some_dash text prefix back none free shape =
+    let found : None ≡ Some (length prefix) = none ∙ ap (position is_dash) shape ∙ first_dash prefix back free in cc
 
 pub none_some : {A : Type 0} (x : A) → None ≡ Some x → ⊥
 none_some x e = cc
@@ -60,11 +60,11 @@ free_decimal n fits =
     let out : IsInRange 48 57 45 → ⊥ = λ h. absurd (omega (arith, h.0)) in
     All-from_get_or (λ x. (x == 45) ≡ false) (decimal n) 0 (λ i low. ne_eqb _ 45 (not_in_digits own (decimal n) 45 (digits_decimal own n fits) out i low))
 
-pub free_front : IsFree (codes ".np")
-free_front zero d low = refl
-free_front (suc zero) d low = refl
-free_front (suc (suc zero)) d low = refl
-free_front (suc (suc (suc k))) d low = absurd (omega (arith, low))
+pub free_prefix : IsFree (codes ".np")
+free_prefix zero d low = refl
+free_prefix (suc zero) d low = refl
+free_prefix (suc (suc zero)) d low = refl
+free_prefix (suc (suc (suc k))) d low = absurd (omega (arith, low))
 
 ascii_by : (bytes : List ℕ) → list_all (λ b. ltb b 128) bytes ≡ true → IsAscii bytes
 ascii_by [] h = IsAscii-nil

@@ -35,6 +35,6 @@ hidden_length session mark fits is =
 
 pub shown_length : (name : List ℕ) → IsShownName name → length name ≤ 144
 shown_length name (inl own) = omega (arith, short_name name own)
-shown_length name (inr (front, number, is_name, low, shape)) =
+shown_length name (inr (prefix, number, is_name, low, shape)) =
     let digits = length-decimal-le 15 number (omega arith) (omega (arith, low)) (omega (arith, low)) in
-    omega (arith, digits, short_name front is_name, ap length shape, length-append front (126 ∷ decimal number))
+    omega (arith, digits, short_name prefix is_name, ap length shape, length-append prefix (126 ∷ decimal number))

@@ -2,3 +2,4 @@ pub mod Dashes
 pub mod Lengths
 pub mod One
 pub mod Tildes
+pub mod OutboxLogs

@@ -17,20 +17,20 @@ use Rattle.folders.proofs.Dashes.{free_decimal, free_digits, untrue}
 abbrev pub Lacks : ℕ → List ℕ → Type 0
 Lacks mark field = All (λ x. (x == mark) ≡ false) field
 
-in_front : (mark b : ℕ) (front : List ℕ) → Lacks mark (b ∷ front) → mark ≡ b → ⊥
-in_front mark b front free e =
-    both_ways (b == mark) (All-head (λ x. (x == mark) ≡ false) b front free) (eq-eqb b mark (sym e))
+in_prefix : (mark b : ℕ) (prefix : List ℕ) → Lacks mark (b ∷ prefix) → mark ≡ b → ⊥
+in_prefix mark b prefix free e =
+    both_ways (b == mark) (All-head (λ x. (x == mark) ≡ false) b prefix free) (eq-eqb b mark (sym e))
 
 -- what stands before the first such byte is one field
 pub fields_one : (mark : ℕ) (a b x y : List ℕ) → Lacks mark a → Lacks mark b → a ++ mark ∷ x ≡ b ++ mark ∷ y → (a ≡ b) × (x ≡ y)
 fields_one mark [] [] x y fa fb e = (refl, cc)
-fields_one mark [] (c ∷ b) x y fa fb e = let same : mark ≡ c = cc in absurd (in_front mark c b fb same)
-fields_one mark (c ∷ a) [] x y fa fb e = let same : mark ≡ c = cc in absurd (in_front mark c a fa same)
+fields_one mark [] (c ∷ b) x y fa fb e = let same : mark ≡ c = cc in absurd (in_prefix mark c b fb same)
+fields_one mark (c ∷ a) [] x y fa fb e = let same : mark ≡ c = cc in absurd (in_prefix mark c a fa same)
 fields_one mark (c ∷ a) (d ∷ b) x y fa fb e =
     let tails : a ++ mark ∷ x ≡ b ++ mark ∷ y = cc in
     let rest = fields_one mark a b x y (All-tail (λ z. (z == mark) ≡ false) c a fa) (All-tail (λ z. (z == mark) ≡ false) d b fb) tails in
     let first : c ≡ d = cc in
-    let front = rest.0 in
+    let prefix = rest.0 in
     (cc, rest.1)
 
 numbers_one : (m n : ℕ) (x y : List ℕ) → m < 2 ^ 64 → n < 2 ^ 64 → decimal m ++ 45 ∷ x ≡ decimal n ++ 45 ∷ y → (m ≡ n) × (x ≡ y)

@@ -32,10 +32,10 @@ none_passes : (b : Bool) → (b && false) ≡ false
 none_passes true = refl
 none_passes false = refl
 
-tilde_in : (front back : List ℕ) → list_all is_name_byte (front ++ 126 ∷ back) ≡ false
+tilde_in : (prefix back : List ℕ) → list_all is_name_byte (prefix ++ 126 ∷ back) ≡ false
 tilde_in [] back = refl
-tilde_in (b ∷ front) back = rw (tilde_in front back) (none_passes (is_name_byte b))
+tilde_in (b ∷ prefix) back = rw (tilde_in prefix back) (none_passes (is_name_byte b))
 
 pub numbered_no_name : (name : List ℕ) → IsNumbered name → IsFileName name → ⊥
-numbered_no_name name (front, number, is_name, low, shape) h =
-    both_ways (list_all is_name_byte name) (ap (list_all is_name_byte) shape ∙ tilde_in front (decimal number)) (name_bytes name h)
+numbered_no_name name (prefix, number, is_name, low, shape) h =
+    both_ways (list_all is_name_byte name) (ap (list_all is_name_byte) shape ∙ tilde_in prefix (decimal number)) (name_bytes name h)

@@ -1,3 +1,9 @@
+pub mod ByName
 pub mod Marks
 pub mod Finding
 pub mod ShownNames
+pub mod Outboxes
+pub mod OutboxLog
+pub mod OutboxLogLaws
+pub mod MemOutboxes
+pub mod Placing

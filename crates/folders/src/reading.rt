@@ -21,8 +21,8 @@ fn first_dash(text: &[u8]) -> Option<usize>
 
 // What stands before the first dash, and what stands behind it.
 fn split(text: &[u8]) -> Option<(&[u8], &[u8])>
-    ensures { (front back : List ℕ) → IsFree front → text.now ≡ front ++ 45 ∷ back
-        → IsFound result (λ parts. (parts.0.now ≡ front) × (parts.1.now ≡ back)) }
+    ensures { (prefix back : List ℕ) → IsFree prefix → text.now ≡ prefix ++ 45 ∷ back
+        → IsFound result (λ parts. (parts.0.now ≡ prefix) × (parts.1.now ≡ back)) }
 {
     let at = first_dash(text)?;
     Some((&text[..at], &text[at + 1..]))

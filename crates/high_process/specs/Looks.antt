@@ -37,22 +37,39 @@ pub record StandsFor (p : HighProcess) (t : ProcessPast) : Type 0 where
   pub last : p.last ≡ t.moment
 
 -- within a look at m, which removed and published this: it stands for the past after the first half
-pub record AsksFor (p : HighProcess) (t : ProcessPast) (m : ℕ) (removed published : Option ℕ) (attaches : Bool) : Type 0 where
-  pub asking : p.asking ≡ Some (record { removed = removed; published = published; attaches = attaches; wants = wants t })
-  pub holds : Holds (state_of p) t
-  pub last : p.last ≡ m
+pub record AsksFor (p : HighProcess) (t : ProcessPast) (m : ℕ) (removed published : Option ℕ) (attaches : Bool) : Type 0
+  where
+    pub asking : p.asking ≡ Some (record {
+      removed = removed;
+      published = published;
+      attaches = attaches;
+      wants = wants
+          t;
+    })
+    pub holds : Holds (state_of p) t
+    pub last : p.last ≡ m
 
 -- the first half of a look: it asks for what its past wants, once that past has the removal
 abbrev pub LookBegins : HighProcess → HighProcess → ℕ → Task → Bool → HighAsk → Type 0
 LookBegins p q m task attaches ask = (t : ProcessPast) → StandsFor p t →
     AsksFor q (begun task t m) m (removed_in task t) (published_in task t m) attaches
-    × (ask ≡ record { publish = published_in task t m; wants = wants (begun task t m); removed = (begun task t m).removed })
+    × (ask ≡ record {
+      publish = published_in task t m;
+      wants = wants (begun task t m);
+      removed = (begun task t m).removed;
+    })
 
 -- the second half: the past has the message that came, and the sending
 abbrev pub Finishes : HighProcess → HighProcess → Option Item → HighLook → Type 0
-Finishes p q item look = (t : ProcessPast) (m : ℕ) (removed published : Option ℕ) (attaches : Bool) → AsksFor p t m removed published attaches →
+Finishes p q item look = (t : ProcessPast) (m : ℕ) (removed published : Option ℕ) (attaches : Bool)
+    → AsksFor p t m removed published attaches →
     StandsFor q (finished p.row.resend attaches (taken_up t item) m)
-    × (look ≡ record { removed = removed; published = published; sent = sent_in p.row.resend attaches (taken_up t item) m })
+    × (look ≡ record {
+      removed = removed;
+      published = published;
+      sent = sent_in p.row.resend attaches (taken_up t item)
+          m;
+    })
 
 -- the process asks for just what `ask` wants
 abbrev pub AsksJust : HighProcess → HighAsk → Type 0
@@ -73,8 +90,16 @@ pub record Asked (p q : HighProcess) (ask : HighAsk) : Type 0 where
 
 -- a look: what the process and its end stood for, they stand for after it with its steps. `after` is
 -- what the end stands for then
-pub record Looked (s : Shape) (on_one_thread : Bool) (after : Low → High → Type 0) (l : Low) (h : High) (p q : HighProcess) (t : ProcessPast) (m : ℕ) (task : Task) (attaches : Bool) (look : HighLook) : Type 0 where
+pub record Looked (s : Shape) (on_one_thread : Bool) (after : Low → High
+    → Type 0) (l : Low) (h : High) (p q : HighProcess) (t : ProcessPast) (m : ℕ) (task : Task) (attaches : Bool)
+    (look : HighLook) : Type 0 where
   pub got : Option Item
-  pub ends : TakesUp s on_one_thread after l (told_time (published_in task t m) h) (wants (begun task t m)) (begun task t m).removed got
+  pub ends : TakesUp s on_one_thread after l (told_time (published_in task t m) h) (wants (begun task t m))
+      (begun task t m).removed got
   pub stands : StandsFor q (finished p.row.resend attaches (taken_up (begun task t m) got) m)
-  pub is : look ≡ record { removed = removed_in task t; published = published_in task t m; sent = sent_in p.row.resend attaches (taken_up (begun task t m) got) m }
+  pub is : look ≡ record {
+    removed = removed_in task t;
+    published = published_in task t m;
+    sent = sent_in p.row.resend
+        attaches (taken_up (begun task t m) got) m;
+  }

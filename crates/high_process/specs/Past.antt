@@ -1,5 +1,6 @@
 -- What a high process has been through since its opening, and what a look does to it.
-use Rattle.std.specs.Prelude.{ℕ, ◌+◌, ◌^◌, Bool, ◌&&◌, ◌||◌, not, nat_lt, if◌then◌else◌, List, [], ◌∷◌, ◌++◌, Option, Some, None, is_some, option_to_list}
+use Rattle.std.specs.Prelude.{ℕ, ◌+◌, ◌^◌, Bool, ◌&&◌, ◌||◌, not, nat_lt, if◌then◌else◌, List, [], ◌∷◌, ◌++◌, Option}
+use Rattle.std.specs.Prelude.{Some, None, is_some, option_to_list}
 use Rattle.pump_frame.specs.declared.frame.Item.{Item}
 use Rattle.pump_core.specs.Sendings.{Sending, last_sending, removal_time, is_due}
 use Rattle.high_process.specs.declared.values.Task.{Task}
@@ -59,7 +60,11 @@ is_sent resend attaches t m = is_some t.hand && (attaches || is_due resend (last
 
 -- the second half of a look: a sending
 abbrev pub finished : ℕ → Bool → ProcessPast → ℕ → ProcessPast
-finished resend attaches t m = record t { sends = if is_sent resend attaches t m then record { number = t.removed; moment = m } ∷ t.sends else t.sends; moment = m }
+finished resend attaches t m = record t {
+  sends = if is_sent resend attaches t m then record
+      { number = t.removed; moment = m } ∷ t.sends else t.sends;
+  moment = m;
+}
 
 -- the number of the message that the look sends
 abbrev pub sent_in : ℕ → Bool → ProcessPast → ℕ → Option ℕ

@@ -11,7 +11,8 @@ use Rattle.high_process.specs.Ends.{StandsFitting}
 use Rattle.high_process.specs.Looks.{StandsFor}
 
 -- the process, its store and its end are in step
-pub record Ready {D : Type 0} (m : Meaning D) (p : HighProcess) (store : HighStore D) (stands : Low → High → Type 0) : Type 0 where
+pub record Ready {D : Type 0} (m : Meaning D) (p : HighProcess) (store : HighStore D) (stands : Low → High
+    → Type 0) : Type 0 where
   pub between : IsBetweenLooks p
   pub up : is_down p ≡ false
   pub ready : IsHighReady m store

@@ -1,5 +1,6 @@
 -- The steps of a high process's code. Private clauses and proofs alone cite this.
-use Rattle.std.specs.Prelude.{◌≡◌, ℕ, ◌+◌, ◌-◌, ◌^◌, Bool, ◌&&◌, ◌||◌, not, nat_lt, if◌then◌else◌, Option, Some, None, is_some}
+use Rattle.std.specs.Prelude.{◌≡◌, ℕ, ◌+◌, ◌-◌, ◌^◌, Bool, ◌&&◌, ◌||◌, not, nat_lt, if◌then◌else◌, Option, Some, None}
+use Rattle.std.specs.Prelude.{is_some}
 use Rattle.pump_frame.specs.declared.frame.Item.{Item}
 use Rattle.high_process.specs.declared.values.Sent.{Sent}
 use Rattle.high_process.specs.declared.values.Asking.{Asking}
@@ -23,7 +24,13 @@ counted (Some t) n = n + 1
 
 -- the message in the hand is removed
 abbrev pub without_hand : State → Option ℕ → State
-without_hand s time = record s { removed = s.removed + 1; hand = None; sent = None; published = counted time s.published }
+without_hand s time = record s {
+  removed = s.removed + 1;
+  hand = None;
+  sent = None;
+  published = counted time
+      s.published;
+}
 
 -- the next message is wanted
 abbrev pub wants_of : ℕ → Option Item → Bool
@@ -39,7 +46,16 @@ sends_of resend s attaches m = is_some s.hand && (attaches || is_late resend s.s
 
 -- the look is begun
 abbrev pub asks : State → ℕ → Option ℕ → Option ℕ → Bool → State
-asks s m removed published attaches = record s { last = m; asking = Some (record { removed = removed; published = published; attaches = attaches; wants = wants_of s.removed s.hand }) }
+asks s m removed published attaches = record s {
+  last = m;
+  asking = Some (record {
+    removed = removed;
+    published = published;
+    attaches = attaches;
+    wants = wants_of
+        s.removed s.hand;
+  });
+}
 
 -- what a look does before the passage is asked
 abbrev pub before : Task → State → ℕ → Bool → State
@@ -61,7 +77,10 @@ sent_at (Some s) m = Some (record { first = s.first; last = m })
 
 -- what it does after it
 abbrev pub after : ℕ → Bool → State → State
-after resend attaches s = record s { sent = if sends_of resend s attaches s.last then sent_at s.sent s.last else s.sent; asking = None }
+after resend attaches s = record s {
+  sent = if sends_of resend s attaches s.last then sent_at s.sent s.last else s.sent;
+  asking = None;
+}
 
 -- what it asks
 abbrev pub ask_of : State → Option ℕ → HighAsk
@@ -69,7 +88,8 @@ ask_of s time = record { publish = time; wants = wants_of s.removed s.hand; remo
 
 -- the first half of a look, as the code makes it
 abbrev pub StepBegins : State → State → ℕ → Task → Bool → HighAsk → Type 0
-StepBegins s q m Remove attaches ask = (q ≡ before Remove s m attaches) × (ask ≡ ask_of (before Remove s m attaches) (time_of s.published s.sent m))
+StepBegins s q m Remove attaches ask = (q ≡ before Remove s m attaches)
+    × (ask ≡ ask_of (before Remove s m attaches) (time_of s.published s.sent m))
 StepBegins s q m Keep attaches ask = (q ≡ before Keep s m attaches) × (ask ≡ ask_of s None)
 StepBegins s q m (Refuse e) attaches ask = ⊥
 
@@ -77,10 +97,17 @@ StepBegins s q m (Refuse e) attaches ask = ⊥
 abbrev pub StepFinishes : ℕ → State → State → Option Item → HighLook → Type 0
 StepFinishes resend s q item look = (a : Asking) → s.asking ≡ Some a →
     (q ≡ after resend a.attaches (with_item s item))
-    × (look ≡ record { removed = a.removed; published = a.published; sent = if sends_of resend (with_item s item) a.attaches s.last then Some s.removed else None })
+    × (look ≡ record {
+      removed = a.removed;
+      published = a.published;
+      sent = if sends_of resend (with_item s item)
+          a.attaches s.last then Some s.removed else None;
+    })
 
 -- the process takes up what the end gives, if it wants a message. `after` is what the end stands for then
-pub record Fills (s : Shape) (on_one_thread : Bool) (stands after : Low → High → Type 0) (p q : State) (ask : HighAsk) : Type 0 where
+pub record Fills (s : Shape) (on_one_thread : Bool) (stands after : Low → High → Type 0) (p q : State) (ask : HighAsk) :
+    Type 0 where
   pub got : Option Item
   pub filled : q ≡ with_item p got
-  pub takes : (l : Low) (h : High) → stands l h → TakesUp s on_one_thread after l (told_time ask.publish h) ask.wants ask.removed got
+  pub takes : (l : Low) (h : High) → stands l h → TakesUp s on_one_thread after l (told_time ask.publish h) ask.wants
+      ask.removed got

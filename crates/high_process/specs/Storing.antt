@@ -1,5 +1,6 @@
 -- What a look does with the store.
-use Rattle.std.specs.Prelude.{◌≡◌, ◌⊎◌, ℕ, ◌+◌, ◌≤◌, true, false, List, Option, Some, None, Result, Err, OnOk, OnErr, IfErr}
+use Rattle.std.specs.Prelude.{◌≡◌, ◌⊎◌, ℕ, ◌+◌, ◌≤◌, true, false, List, Option, Some, None, Result, Err, OnOk, OnErr}
+use Rattle.std.specs.Prelude.{IfErr}
 use Rattle.disk_model.specs.Disk.{Meaning, Moves, Answers, Leaves}
 use Rattle.stable_buffer.specs.High.{IsHighReady, high_disk, high_count, high_is_open, removal_end}
 use Rattle.stable_buffer.specs.Stands.{HighStands, MayRemove, Removes}
@@ -27,7 +28,8 @@ pub record Removing {D T : Type 0} (m : Meaning D) (old new : HighStore D) (resu
 
 -- what becomes of the process and its store, by what the frame asks: a refusal changes neither, and
 -- the disk is called for a removal alone, after whose fault the process is down
-abbrev pub Fares : {D T : Type 0} → Meaning D → Task → HighProcess → HighProcess → HighStore D → HighStore D → Result T HighFault → Type 0
+abbrev pub Fares : {D T : Type 0} → Meaning D → Task → HighProcess → HighProcess → HighStore D → HighStore D
+    → Result T HighFault → Type 0
 Fares m (Refuse e) p q old new result = (result ≡ Err e) × (q ≡ p) × (new ≡ old)
 Fares m Keep p q old new result = OnErr result ⊥ × (new ≡ old)
 Fares m Remove p q old new result = Removing m old new result × OnErr result (is_down q ≡ true)
@@ -35,11 +37,13 @@ Fares m Remove p q old new result = Removing m old new result × OnErr result (i
 -- a receiver of the session has the message with this number: a TAKEN of it, or an ATTACH that counts it last
 abbrev pub GivenBack : ℕ → ℕ → Option Frame → Type 0
 GivenBack session removed None = ⊥
-GivenBack session removed (Some f) = (f.session ≡ session) × (((f.kind ≡ Taken) × (f.number ≡ removed)) ⊎ ((f.kind ≡ Attach) × (f.number ≡ removed + 1)))
+GivenBack session removed (Some f) = (f.session ≡ session) × (((f.kind ≡ Taken) × (f.number ≡ removed))
+    ⊎ ((f.kind ≡ Attach) × (f.number ≡ removed + 1)))
 
 -- a disk stands for this count, or for one more where a receiver has the message
 abbrev pub StandsOrRemoved : SessionRow → ℕ → ℕ → Option Frame → List ℕ → Type 0
-StandsOrRemoved row session removed frame disk = HighStands row removed disk ⊎ (GivenBack session removed frame × HighStands row (removed + 1) disk)
+StandsOrRemoved row session removed frame disk = HighStands row removed disk ⊎ (GivenBack session removed frame
+    × HighStands row (removed + 1) disk)
 
 -- where the disk stood for the process's count, a crash at any moment since leaves what stands for it, or
 -- for one more where a receiver has the message

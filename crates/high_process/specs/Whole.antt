@@ -24,7 +24,8 @@ pub record WholeLook {D H P : Type 0} (m : Meaning D) (shape_of : H → Shape) (
   -- what the process and its end stood for, they stand for after it, with its steps
   pub looks : IfOk result (λ look. (l : Low) (h : High) (t : ProcessPast)
       → StandsFitting (stands e) p l h → StandsFor p t
-      → Looked (shape_of e) on_one_thread (StandsFitting (stands f) q) l h p q t moment (task_at p frame) (attaches_at p frame) look)
+      → Looked (shape_of e) on_one_thread (StandsFitting (stands f) q) l h p q t moment (task_at p frame)
+      (attaches_at p frame) look)
   -- a crash at any moment leaves the count of before, or one more where the receiver has the message
   pub images : LeavesCounted m p old new frame
   pub refused : OnErr result (f ≡ e)

@@ -1,5 +1,6 @@
 // The high process of a session: its opening, what it holds, and the second half of a look.
-ghost use Rattle.std.specs.Prelude.{◌≡◌, ℕ, ◌+◌, ◌-◌, ◌^◌, ◌<◌, ◌≤◌, true, false, length, Option, Some, None, IfSome, IfOk, IfErr, OnOk, OnErr, option_map};
+ghost use Rattle.std.specs.Prelude.{◌≡◌, ℕ, ◌+◌, ◌-◌, ◌^◌, ◌<◌, ◌≤◌, true, false, length, Option, Some, None, IfSome};
+ghost use Rattle.std.specs.Prelude.{IfOk, IfErr, OnOk, OnErr, option_map};
 
 use crate::ask::fetch;
 use crate::how::Asks;
@@ -41,11 +42,13 @@ impl HighProcess {
     ghost use Rattle.pump_core.specs.Passage.{Low, High};
     ghost use Rattle.high_process.specs.Tasks.{frame_of};
     ghost use Rattle.high_process.specs.Past.{ProcessPast, fresh};
-    ghost use Rattle.high_process.specs.States.{state_of, row_of, made_coarse, removed_of, hand_of, published_of, last_of, is_down, task_at, attaches_at, IsBetweenLooks};
+    ghost use Rattle.high_process.specs.States.{state_of, row_of, made_coarse, removed_of, hand_of, published_of};
+    ghost use Rattle.high_process.specs.States.{last_of, is_down, task_at, attaches_at, IsBetweenLooks};
     ghost use Rattle.high_process.specs.Looks.{IsHand, StandsFor, Finishes, AsksJust, TakesItem};
     ghost use Rattle.high_process.specs.Ends.{IsTime};
     ghost use Rattle.high_process.specs.Storing.{Fares, Removing, IsAfter};
-    ghost use Rattle.high_process.specs.Steps.{time_of, without_hand, wants_of, asks, ask_of, with_item, sends_of, StepBegins, StepFinishes, Fills};
+    ghost use Rattle.high_process.specs.Steps.{time_of, without_hand, wants_of, asks, ask_of, with_item, sends_of};
+    ghost use Rattle.high_process.specs.Steps.{StepBegins, StepFinishes, Fills};
 
     /// The process of an opening: with the count that was found, at most 2^48, and the message that
     /// was found to be the next one, if any.
@@ -267,7 +270,8 @@ impl HighProcess {
         ensures store { OnOk result (IsHighReady D.told store.new) }
         ensures count { OnOk result (high_count store.new ≡ self.new.removed) }
         ensures up { OnOk result (self.new.is_down ≡ self.old.is_down) }
-        ensures steps { IfOk result (λ ask. StepBegins (state_of self.old) (state_of self.new) moment task attaches ask) }
+        ensures steps { IfOk result (λ ask. StepBegins (state_of self.old) (state_of self.new) moment task attaches
+            ask) }
     {
         match task {
             Task::Refuse(fault) => Err(fault),

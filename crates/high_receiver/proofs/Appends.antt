@@ -26,15 +26,15 @@ take_both (suc a) zero [] = let on : suc a + zero ≡ suc a = omega arith in ap 
 take_both (suc a) (suc b) [] = let on : suc a + suc b ≡ suc (a + suc b) = omega arith in ap (λ n. take n []) on
 take_both (suc a) b (x ∷ l) = let on : suc a + b ≡ suc (a + b) = omega arith in ap (λ n. take n (x ∷ l)) on ∙ ap (λ t. x ∷ t) (take_both a b l)
 
-take_front : {X : Type 0} (n : ℕ) (a b : List X) → n ≤ length a → take n (a ++ b) ≡ take n a
-take_front zero a b le = refl
-take_front (suc n) [] b le = absurd (omega (arith, le))
-take_front {X = X} (suc n) (x ∷ a) b le = ap (λ (l : List X). x ∷ l) (take_front n a b (omega (arith, le)))
+take_prefix : {X : Type 0} (n : ℕ) (a b : List X) → n ≤ length a → take n (a ++ b) ≡ take n a
+take_prefix zero a b le = refl
+take_prefix (suc n) [] b le = absurd (omega (arith, le))
+take_prefix {X = X} (suc n) (x ∷ a) b le = ap (λ (l : List X). x ∷ l) (take_prefix n a b (omega (arith, le)))
 
-drop_front : {X : Type 0} (n : ℕ) (a b : List X) → n ≤ length a → drop n (a ++ b) ≡ drop n a ++ b
-drop_front zero a b le = refl
-drop_front (suc n) [] b le = absurd (omega (arith, le))
-drop_front (suc n) (x ∷ a) b le = drop_front n a b (omega (arith, le))
+drop_prefix : {X : Type 0} (n : ℕ) (a b : List X) → n ≤ length a → drop n (a ++ b) ≡ drop n a ++ b
+drop_prefix zero a b le = refl
+drop_prefix (suc n) [] b le = absurd (omega (arith, le))
+drop_prefix (suc n) (x ∷ a) b le = drop_prefix n a b (omega (arith, le))
 
 -- the length of a spelled message
 length_spelled : (message : List ℕ) → length message < 2 ^ 16 → length_at (spelled message) 0 ≡ length message
@@ -42,11 +42,11 @@ unfolding length_at
 length_spelled message small = big_number-reads_back 2 (length message) message (omega (arith, small))
 
 -- a length depends on the first two bytes
-pub length_front : (a b : List ℕ) → 2 ≤ length a → length_at (a ++ b) 0 ≡ length_at a 0
+pub length_prefix : (a b : List ℕ) → 2 ≤ length a → length_at (a ++ b) 0 ≡ length_at a 0
 unfolding length_at
-length_front [] b le = absurd (omega (arith, le))
-length_front (x ∷ []) b le = absurd (omega (arith, le))
-length_front (x ∷ y ∷ a) b le = refl
+length_prefix [] b le = absurd (omega (arith, le))
+length_prefix (x ∷ []) b le = absurd (omega (arith, le))
+length_prefix (x ∷ y ∷ a) b le = refl
 
 -- one record more
 pub records_push : (most : ℕ) (messages : List (List ℕ)) (message bytes : List ℕ) → length message ≤ most → length message < 2 ^ 16 → Records most messages bytes
@@ -58,10 +58,10 @@ records_push most [] message [] fits small fill =
 records_push most (m ∷ ms) message bytes fits small (within, is, few, here, fill) =
     let rest = spelled message in (
       omega (arith, within, length-append bytes rest),
-      length_front bytes rest (omega (arith, within)) ∙ is,
+      length_prefix bytes rest (omega (arith, within)) ∙ is,
       few,
-      ap (λ (l : List ℕ). take (length m) l) (drop_front 2 bytes rest (omega (arith, within))) ∙ take_front (length m) (drop 2 bytes) rest (omega (arith, within, length-drop 2 bytes)) ∙ here,
-      subst (λ (l : List ℕ). Records most (ms ++ message ∷ []) l) (sym (drop_front (2 + length m) bytes rest within)) (records_push most ms message (drop (2 + length m) bytes) fits small fill),
+      ap (λ (l : List ℕ). take (length m) l) (drop_prefix 2 bytes rest (omega (arith, within))) ∙ take_prefix (length m) (drop 2 bytes) rest (omega (arith, within, length-drop 2 bytes)) ∙ here,
+      subst (λ (l : List ℕ). Records most (ms ++ message ∷ []) l) (sym (drop_prefix (2 + length m) bytes rest within)) (records_push most ms message (drop (2 + length m) bytes) fits small fill),
     )
 
 -- the count and the end that a register selects
@@ -78,9 +78,9 @@ range_before at n old new torn p k le =
 
 torn_stands : (row : SessionRow) (messages : List (List ℕ)) (at n : ℕ) (old new : List ℕ) → (stands : RecvStands row messages old) → at ≡ stands.end → Torn at n old new → RecvStands row messages new
 torn_stands row messages at n old new stands end torn =
-    let front : take 32 new ≡ take 32 old = sym (take-take 32 at new (omega (arith, end, stands.from))) ∙ ap (λ (l : List ℕ). take 32 l) torn.before ∙ take-take 32 at old (omega (arith, end, stands.from)) in
+    let prefix : take 32 new ≡ take 32 old = sym (take-take 32 at new (omega (arith, end, stands.from))) ∙ ap (λ (l : List ℕ). take 32 l) torn.before ∙ take-take 32 at old (omega (arith, end, stands.from)) in
     record {
-      header = subst (HasHeader row 82) (sym front) stands.header;
+      header = subst (HasHeader row 82) (sym prefix) stands.header;
       end = stands.end;
       from = stands.from;
       within = omega (arith, stands.within, torn.no_shorter);
@@ -96,7 +96,7 @@ torn_on row parity first second n old new selects torn = record {
 
 register_stands : (row : SessionRow) (messages : List (List ℕ)) (old new : List ℕ) → SameOutside old new → value_of new ≡ value_of old → RecvStands row messages old → RecvStands row messages new
 register_stands row messages old new same value stands = record {
-  header = subst (HasHeader row 82) (sym same.front) stands.header;
+  header = subst (HasHeader row 82) (sym same.prefix) stands.header;
   end = stands.end;
   from = stands.from;
   within = omega (arith, stands.within, same.size);
@@ -138,7 +138,7 @@ register_takes row messages first second message old new fits short was same val
     ap (λ k. take k (drop 80 new)) more ∙ take_both n (2 + length message) (drop 80 new)
     ∙ (λ i. ap (λ (l : List ℕ). take n l) same.rest i ++ (ap (λ (l : List ℕ). take (2 + length message) l) place ∙ here) i) in
     record {
-      header = subst (HasHeader row 82) (sym same.front) stands.header;
+      header = subst (HasHeader row 82) (sym same.prefix) stands.header;
       end = second + 2 + length message;
       from = omega (arith, from);
       within = omega (arith, has.within, same.size);

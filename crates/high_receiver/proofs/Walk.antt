@@ -4,7 +4,7 @@ use Rattle.std.proofs.lemmas.List.{drop-drop, drop-take, take-take, length-take-
 use Rattle.stable_buffer.specs.Numbers.{length_at}
 use Rattle.stable_buffer.specs.Log.{Records}
 use Rattle.high_receiver.specs.Records.{RecordsFrom}
-use Rattle.high_receiver.proofs.Appends.{length_front}
+use Rattle.high_receiver.proofs.Appends.{length_prefix}
 
 -- the length at an offset is that of the bytes from there
 length_there : (at : ℕ) (disk : List ℕ) → length_at (drop at disk) 0 ≡ length_at disk at
@@ -14,7 +14,7 @@ length_there at disk = refl
 pub length_taken : (k at : ℕ) (disk : List ℕ) → 2 ≤ k → at + k ≤ length disk → length_at (take k (drop at disk)) 0 ≡ length_at disk at
 length_taken k at disk two within =
     let size : length (take k (drop at disk)) ≡ k = length-take-le k (drop at disk) (omega (arith, within, length-drop at disk)) in
-    sym (length_front (take k (drop at disk)) (drop k (drop at disk)) (omega (arith, two, size)))
+    sym (length_prefix (take k (drop at disk)) (drop k (drop at disk)) (omega (arith, two, size)))
     ∙ ap (λ (l : List ℕ). length_at l 0) (take-append-drop k (drop at disk)) ∙ length_there at disk
 
 -- what the first of these records says, and what follows it
@@ -74,10 +74,10 @@ pub found_bytes : (l k at : ℕ) (into rest mid disk message : List ℕ) → k �
     → take (length message) (drop 2 (drop at disk)) ≡ message → take (2 + l - 2) (drop 2 (into ++ rest)) ≡ message
 found_bytes l k at into rest mid disk message kl size read same is bytes =
     let e : 2 + l - 2 ≡ l = omega arith in
-    let front : drop 2 (into ++ rest) ≡ drop 2 into ++ rest = drop-append-le 2 into rest (omega (arith, size, kl)) in
+    let prefix : drop 2 (into ++ rest) ≡ drop 2 into ++ rest = drop-append-le 2 into rest (omega (arith, size, kl)) in
     let there : into ≡ take (2 + l) (drop at disk) = read ∙ (λ i. take (kl i) (drop at (same i))) in
     let here : drop 2 into ≡ message = ap (λ (b : List ℕ). drop 2 b) there ∙ drop-take 2 l (drop at disk) ∙ ap (λ j. take j (drop 2 (drop at disk))) is ∙ bytes in
-    (λ i. take (e i) (front i)) ∙ take_at (drop 2 into) rest l (omega (arith, length-drop 2 into, size, kl)) ∙ here
+    (λ i. take (e i) (prefix i)) ∙ take_at (drop 2 into) rest l (omega (arith, length-drop 2 into, size, kl)) ∙ here
 
 -- a call that went well found the disk not armed
 pub calm : (before after : Bool) → (before ≡ true → ⊥) → after ≡ false → after ≡ before

@@ -35,8 +35,10 @@ pub record IsNew (reader : LogReader) : Type 0 where
 pub record IsReading {D : Type 0} (m : Meaning D) (receiver : Receiver D) (reader : LogReader) : Type 0 where
   pub in_block : IsInBlock reader
   pub within : reader.start + reader.filled ≤ recv_end receiver
-  pub bytes : m.tells → take reader.filled reader.block ≡ take reader.filled (drop reader.start (m.reading (recv_disk receiver)))
-  pub place : m.tells → (messages : List (List ℕ)) → RecvStands (recv_row receiver) messages (m.reading (recv_disk receiver))
+  pub bytes : m.tells → take reader.filled reader.block
+      ≡ take reader.filled (drop reader.start (m.reading (recv_disk receiver)))
+  pub place : m.tells → (messages : List (List ℕ))
+      → RecvStands (recv_row receiver) messages (m.reading (recv_disk receiver))
       → reader.start + reader.until ≡ record_at messages reader.count
 
 -- the block begins at the next record, and goes to the log's end where that fits
@@ -54,4 +56,5 @@ pub record HasStepped (most : ℕ) (old new : LogReader) : Type 0 where
   pub count : new.count ≡ old.count + 1
   pub short : new.until ≤ new.from + most
   pub found : length_at old.block old.until ≤ most → old.until + (2 + length_at old.block old.until) ≤ old.filled
-      → (given_message new ≡ message_at old.block old.until) × (new.until ≡ old.until + (2 + length_at old.block old.until))
+      → (given_message new ≡ message_at old.block old.until)
+      × (new.until ≡ old.until + (2 + length_at old.block old.until))

@@ -1,5 +1,6 @@
 -- An open receiver, and what it does with a message.
-use Rattle.std.specs.Prelude.{◌≡◌, ◌⊎◌, ℕ, ◌+◌, ◌^◌, ◌≤◌, Bool, true, false, nat_lt, if◌then◌else◌, List, length, take, sum_by, Option, None, Some, Result, Ok, Err, IsOk, OnOk, OnErr, IfErr}
+use Rattle.std.specs.Prelude.{◌≡◌, ◌⊎◌, ℕ, ◌+◌, ◌^◌, ◌≤◌, Bool, true, false, nat_lt, if◌then◌else◌, List, length, take}
+use Rattle.std.specs.Prelude.{sum_by, Option, None, Some, Result, Ok, Err, IsOk, OnOk, OnErr, IfErr}
 use Rattle.pump_frame.specs.Rows.{IsLawfulRow}
 use Rattle.pump_frame.specs.declared.row.SessionRow.{SessionRow}
 use Rattle.disk_model.specs.Disk.{Meaning, Moves, Settled, Leaves, Answers}
@@ -70,7 +71,8 @@ pub record IsRecordAt {D : Type 0} (m : Meaning D) (receiver : Receiver D) (n at
 abbrev pub MayFill : {T E : Type 0} → ℕ → List ℕ → List ℕ → Result T E → Type 0
 MayFill most old new result = (new ≡ old) ⊎ (IsOk result × (length new ≤ most))
 
--- What is answered to a message of this number and length where nothing is to be stored: it is a repeat, or ahead, or ends past the size.
+-- What is answered to a message of this number and length where nothing is to be stored: it is a repeat, or ahead, or
+-- ends past the size.
 abbrev pub answer_at_once : ℕ → ℕ → ℕ → ℕ → ℕ → Option (Result Taken TakeFault)
 answer_at_once count end size number length =
     if nat_lt number count then Some (Ok Repeat)
@@ -85,8 +87,10 @@ is_device (Err (Device faults)) = true
 is_device (Err (Ahead number count)) = false
 is_device (Err (LogFull end length size)) = false
 
--- A message is stored, or its device fails. A crash at any moment leaves the messages from before, with this one or without.
-pub record Stores {D : Type 0} (m : Meaning D) (message : List ℕ) (old new : Receiver D) (result : Result Taken TakeFault) : Type 0 where
+-- A message is stored, or its device fails. A crash at any moment leaves the messages from before, with this one or
+-- without.
+pub record Stores {D : Type 0} (m : Meaning D) (message : List ℕ) (old new : Receiver D)
+    (result : Result Taken TakeFault) : Type 0 where
   pub took : OnOk result (result ≡ Ok Took)
   pub ready : OnOk result (IsRecvReady m new)
   pub count : OnOk result (recv_count new ≡ recv_count old + 1)
@@ -94,7 +98,9 @@ pub record Stores {D : Type 0} (m : Meaning D) (message : List ℕ) (old new : R
   pub moves : Moves m (MayTake (recv_row old) message) (recv_disk old) (recv_disk new)
   pub during : (messages : List (List ℕ)) → RecvStands (recv_row old) messages (m.reading (recv_disk old))
       → Leaves m (recv_disk old) (recv_disk new) (StandsOrTakes (recv_row old) messages message)
-  pub taken : OnOk result (m.tells → TakesMessage (recv_row old) message (m.reading (recv_disk old)) (m.reading (recv_disk new)))
+  pub taken : OnOk result (m.tells
+      → TakesMessage (recv_row old) message (m.reading (recv_disk old)) (m.reading (recv_disk new)))
   pub closed : OnErr result (recv_is_open new ≡ false)
-  pub answers : Answers m (recv_end old + 2 + length message ≤ m.room (recv_disk old)) (recv_disk old) (recv_disk new) result
+  pub answers : Answers m (recv_end old + 2 + length message ≤ m.room (recv_disk old)) (recv_disk old) (recv_disk new)
+      result
   pub device : IfErr result (λ e. e ≡ Device (m.count (recv_disk new)))

@@ -1,11 +1,14 @@
 // A reader that gives a receiver's messages in order.
-ghost use Rattle.std.specs.Prelude.{◌≡◌, ◌+◌, ◌≤◌, ◌<◌, ◌^◌, ℕ, List, None, false, ⊤, [], length, slice_index_or, IfSome, OnOk, OnErr, IfErr};
+ghost use Rattle.std.specs.Prelude.{◌≡◌, ◌+◌, ◌≤◌, ◌<◌, ◌^◌, ℕ, List, None, false, ⊤, [], length, slice_index_or};
+ghost use Rattle.std.specs.Prelude.{IfSome, OnOk, OnErr, IfErr};
 ghost use Rattle.disk_model.specs.Disk.{Moves, Same, Answers};
 ghost use Rattle.pump_frame.specs.Counts.{Rose};
 ghost use Rattle.stable_buffer.specs.Log.{RecvStands};
 ghost use Rattle.stable_buffer.specs.Numbers.{length_at};
-ghost use Rattle.high_receiver.specs.Receiving.{IsRecvReady, recv_count, recv_disk, recv_end, recv_is_open, recv_row, recv_size};
-ghost use Rattle.high_receiver.specs.LogReading.{IsInBlock, IsReading, IsNew, HasFilled, HasStepped, given_count, given_message};
+ghost use Rattle.high_receiver.specs.Receiving.{IsRecvReady, recv_count, recv_disk, recv_end, recv_is_open, recv_row};
+ghost use Rattle.high_receiver.specs.Receiving.{recv_size};
+ghost use Rattle.high_receiver.specs.LogReading.{IsInBlock, IsReading, IsNew, HasFilled, HasStepped, given_count};
+ghost use Rattle.high_receiver.specs.LogReading.{given_message};
 
 use crate::Receiver;
 use byteorder::{BigEndian, ByteOrder};

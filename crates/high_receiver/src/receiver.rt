@@ -1,5 +1,6 @@
 // High's receiver over its disk.
-ghost use Rattle.std.specs.Prelude.{◌≡◌, ◌+◌, ◌^◌, ◌<◌, ◌≤◌, ℕ, List, None, true, false, ⊤, [], length, take, drop, slice_index_or, IfSome, IfOk, OnOk, OnErr, IfErr};
+ghost use Rattle.std.specs.Prelude.{◌≡◌, ◌+◌, ◌^◌, ◌<◌, ◌≤◌, ℕ, List, None, true, false, ⊤, [], length, take, drop};
+ghost use Rattle.std.specs.Prelude.{slice_index_or, IfSome, IfOk, OnOk, OnErr, IfErr};
 ghost use Rattle.disk_model.specs.Disk.{Moves, Same, Settled, Leaves, Answers};
 ghost use Rattle.pump_frame.specs.Rows.{IsLawfulRow};
 ghost use Rattle.stable_buffer.specs.Log.{RecvStands};
@@ -24,7 +25,9 @@ impl<D: Disk> Receiver<D> {
     ghost use Rattle.stable_buffer.specs.Register.{IsReady, register_disk, register_value};
     ghost use Rattle.high_receiver.specs.Steps.{MayTake, TakesMessage, StandsOrTakes};
     ghost use Rattle.high_receiver.specs.LogReading.{IsReading, given_count};
-    ghost use Rattle.high_receiver.specs.Receiving.{IsRecordAt, IsRecvReady, MayFill, StandsForSome, Stores, answer_at_once, is_device, recv_disk, recv_count, recv_end, recv_row, recv_size, recv_made_coarse, recv_is_open};
+    ghost use Rattle.high_receiver.specs.Receiving.{IsRecordAt, IsRecvReady, MayFill, StandsForSome, Stores};
+    ghost use Rattle.high_receiver.specs.Receiving.{answer_at_once, is_device, recv_disk, recv_count, recv_end};
+    ghost use Rattle.high_receiver.specs.Receiving.{recv_row, recv_size, recv_made_coarse, recv_is_open};
 
     /// A receiver over a register, whose disk stands for a list of at most 2^48 messages, and has
     /// `size` bytes to fill.

@@ -5,7 +5,8 @@ use Rattle.pump_core.specs.Passage.{Shape, Low, High, ComesNext, Passes, Refuses
 use Rattle.pump_core.specs.declared.feedback.Feedback.{Feedback}
 use Rattle.pump_core.specs.declared.feedback.Feedback.TheVariants.{Quiet, Full, Passed, Released, Repeat}
 use Rattle.low_process.specs.declared.values.Answer.{Answer}
-use Rattle.low_process.specs.declared.values.Answer.TheVariants.{Full as ToldFull, Passed as ToldPassed, Average as ToldAverage}
+use Rattle.low_process.specs.declared.values.Answer.TheVariants.{Full as ToldFull, Passed as ToldPassed}
+use Rattle.low_process.specs.declared.values.Answer.TheVariants.{Average as ToldAverage}
 use Rattle.low_process.specs.declared.process.LowProcess.{LowProcess}
 use Rattle.low_process.specs.Looks.{next_of, is_down, hand_of}
 

@@ -1,5 +1,6 @@
 -- What a low process stands for, between two looks and within one.
-use Rattle.std.specs.Prelude.{◌≡◌, ℕ, ◌+◌, ◌≤◌, ◌^◌, Bool, true, false, if◌then◌else◌, List, ◌++◌, Option, None, Some, is_some}
+use Rattle.std.specs.Prelude.{◌≡◌, ℕ, ◌+◌, ◌≤◌, ◌^◌, Bool, true, false, if◌then◌else◌, List, ◌++◌, Option, None, Some}
+use Rattle.std.specs.Prelude.{is_some}
 use Rattle.pump_frame.specs.declared.row.SessionRow.{SessionRow}
 use Rattle.pump_frame.specs.declared.frame.Item.{Item}
 use Rattle.pump_core.specs.declared.feedback.Feedback.{Feedback}
@@ -12,11 +13,14 @@ use Rattle.pump_core.specs.Exchanges.{is_gone, is_repeat, IsFrame, Part, IsCut}
 use Rattle.pump_core.specs.Replies.{Sent, sent, LowReplies, number_in, takes, stores}
 use Rattle.pump_core.specs.Standing.{State, StandsAt}
 use Rattle.low_process.specs.declared.values.Arrival.{Arrival as GivenArrival}
-use Rattle.low_process.specs.declared.values.Arrival.TheVariants.{Nothing as GivenNothing, Frame as GivenFrame, Bad as GivenBad, Gone as GivenGone}
+use Rattle.low_process.specs.declared.values.Arrival.TheVariants.{Nothing as GivenNothing, Frame as GivenFrame}
+use Rattle.low_process.specs.declared.values.Arrival.TheVariants.{Bad as GivenBad, Gone as GivenGone}
 use Rattle.low_process.specs.declared.values.Asking.{Asking}
-use Rattle.low_process.specs.declared.values.Asking.TheVariants.{Nothing as AsksNothing, Forward as AsksForward, Average as AsksAverage}
+use Rattle.low_process.specs.declared.values.Asking.TheVariants.{Nothing as AsksNothing, Forward as AsksForward}
+use Rattle.low_process.specs.declared.values.Asking.TheVariants.{Average as AsksAverage}
 use Rattle.low_process.specs.declared.values.Answer.{Answer}
-use Rattle.low_process.specs.declared.values.Answer.TheVariants.{Full as ToldFull, Passed as ToldPassed, Average as ToldAverage}
+use Rattle.low_process.specs.declared.values.Answer.TheVariants.{Full as ToldFull, Passed as ToldPassed}
+use Rattle.low_process.specs.declared.values.Answer.TheVariants.{Average as ToldAverage}
 use Rattle.low_process.specs.declared.values.LowLook.{LowLook}
 use Rattle.low_process.specs.declared.values.Ask.{Ask}
 use Rattle.low_process.specs.declared.values.Ask.TheVariants.{Done, Forward, Average}

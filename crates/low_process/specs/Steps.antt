@@ -5,7 +5,8 @@ use Rattle.pump_core.specs.declared.feedback.Feedback.TheVariants.{Quiet}
 use Rattle.pump_core.specs.History.{Arrival, Look}
 use Rattle.pump_core.specs.Standing.{State}
 use Rattle.pump_core.specs.Step.{FeedbackFits, after, reply_at, takes_at, stores_at}
-use Rattle.low_process.specs.declared.values.Asking.TheVariants.{Nothing as AsksNothing, Forward as AsksForward, Average as AsksAverage}
+use Rattle.low_process.specs.declared.values.Asking.TheVariants.{Nothing as AsksNothing, Forward as AsksForward}
+use Rattle.low_process.specs.declared.values.Asking.TheVariants.{Average as AsksAverage}
 use Rattle.low_process.specs.declared.values.LowLook.{LowLook}
 use Rattle.low_process.specs.declared.values.Ask.{Ask}
 use Rattle.low_process.specs.declared.values.Ask.TheVariants.{Done, Forward, Average}

@@ -1,5 +1,6 @@
 -- A look over a store and an end.
-use Rattle.std.specs.Prelude.{◌≡◌, ◌⊎◌, ℕ, ◌+◌, ◌<◌, ◌≤◌, ◌||◌, Bool, true, false, List, [], ◌∷◌, ◌++◌, Option, Some, None}
+use Rattle.std.specs.Prelude.{◌≡◌, ◌⊎◌, ℕ, ◌+◌, ◌<◌, ◌≤◌, ◌||◌, Bool, true, false, List, [], ◌∷◌, ◌++◌, Option, Some}
+use Rattle.std.specs.Prelude.{None}
 use Rattle.disk_model.specs.Disk.{Meaning, Each, Leaves}
 use Rattle.stable_buffer.specs.Register.{value_of}
 use Rattle.stable_buffer.specs.Stands.{LowStands}
@@ -14,7 +15,8 @@ use Rattle.low_process.specs.declared.values.LowLook.{LowLook}
 use Rattle.low_process.specs.declared.values.Ask.{Ask}
 use Rattle.low_process.specs.declared.values.Ask.TheVariants.{Done, Forward, Average}
 use Rattle.pump_core.specs.Passage.{Shape, Low, High}
-use Rattle.low_process.specs.Looks.{row_of, next_of, last_of, is_down, look_of, hand_of, hand_after, StandsFor, LookBegins, Looks, IsInBounds}
+use Rattle.low_process.specs.Looks.{row_of, next_of, last_of, is_down, look_of, hand_of, hand_after, StandsFor}
+use Rattle.low_process.specs.Looks.{LookBegins, Looks, IsInBounds}
 use Rattle.low_process.specs.Ends.{EndStep, StandsFitting}
 use Rattle.low_process.specs.Storing.{message_in, StoreStep, counted}
 

@@ -6,7 +6,9 @@ ghost use Rattle.pump_core.specs.ReplyFrames.{IsLawfulReply};
 ghost use Rattle.pump_core.specs.History.{Arrival as Offered};
 ghost use Rattle.pump_core.specs.Passage.{Low, High, ComesNext};
 ghost use Rattle.low_process.specs.declared.values.Asking.TheVariants.{Forward as AsksForward};
-ghost use Rattle.low_process.specs.Looks.{IsAnswerTo, IsInBounds, IsBetweenLooks, AsksToForward, AsksFor, IsLawful, Looks, HandBegins, arrival_of, look_of, row_of, next_of, last_of, is_down, hand_of, item_in_hand, hand_passed};
+ghost use Rattle.low_process.specs.Looks.{IsAnswerTo, IsInBounds, IsBetweenLooks, AsksToForward, AsksFor, IsLawful};
+ghost use Rattle.low_process.specs.Looks.{Looks, HandBegins, arrival_of, look_of, row_of, next_of, last_of, is_down};
+ghost use Rattle.low_process.specs.Looks.{hand_of, item_in_hand, hand_passed};
 ghost use Rattle.low_process.specs.Heads.{look_with, ask_with};
 ghost use Rattle.low_process.specs.Ends.{OfferStep, EndStep, FitsEnd, StandsFitting};
 ghost use Rattle.low_process.specs.Whole.{HasStore, BeginStep, WholeLook, KeepsAcknowledged, LeavesStored, reply_in};
@@ -70,12 +72,15 @@ impl LowProcess {
         ensures images { LeavesStored D.told self.old store.old store.new
             (arrival_of arrival.entry) }
         ensures still { is_down self.old ≡ true → store.new ≡ store.old }
-        ensures silent { is_down self.old ≡ true → reply_in (ask_with (row_of self.old) self.new head.new result) ≡ None }
-        ensures acknowledged { KeepsAcknowledged D.told (row_of self.old) (reply_in (ask_with (row_of self.old) self.new head.new result))
+        ensures silent { is_down self.old ≡ true → reply_in (ask_with (row_of self.old) self.new head.new result)
+            ≡ None }
+        ensures acknowledged { KeepsAcknowledged D.told (row_of self.old)
+            (reply_in (ask_with (row_of self.old) self.new head.new result))
             (low_disk store.new) }
         ensures lawful { IfSome head.new.reply IsLawfulReply }
 
-        ensures hand { HandBegins self.old self.new (arrival_of arrival.entry) (ask_with (row_of self.old) self.new head.new result) }
+        ensures hand { HandBegins self.old self.new (arrival_of arrival.entry) (ask_with (row_of self.old) self.new
+            head.new result) }
         ensures fits { (l : Low) → FitsEnd self.old l → FitsEnd self.new l }
         ensures row { row_of self.new ≡ row_of self.old }
         ensures last { last_of self.new ≡ moment }
@@ -174,7 +179,8 @@ impl LowProcess {
 
         ensures { WholeLook D.told L.shape L.place L.on_one_thread L.stands
             self.old self.new store.old store.new ends.old ends.new
-            moment word (arrival_of arrival.entry) (look_with (row_of self.old) head.new) (IfSome head.new.reply IsLawfulReply) }
+            moment word (arrival_of arrival.entry) (look_with (row_of self.old) head.new)
+            (IfSome head.new.reply IsLawfulReply) }
     {
         match self.begin_into(moment, word, arrival, store, head) {
             AskHead::Done => {}
@@ -202,7 +208,8 @@ impl LowProcess {
 
         ensures { WholeLook D.told L.shape L.place L.on_one_thread L.stands
             self.old self.new store.old store.new ends.old ends.new
-            moment word (arrival_of arrival.entry) (look_with (row_of self.old) head.new) (IfSome head.new.reply IsLawfulReply) }
+            moment word (arrival_of arrival.entry) (look_with (row_of self.old) head.new)
+            (IfSome head.new.reply IsLawfulReply) }
     {
         self.look_by(&AtOnce, moment, word, arrival, store, ends, head);
     }

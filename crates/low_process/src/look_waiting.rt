@@ -37,7 +37,8 @@ impl LowProcess {
 
         ensures { WholeLook D.told L.shape L.place L.on_one_thread L.stands
             self.old self.new store.old store.new ends.old ends.new
-            moment word (arrival_of arrival.entry) (look_with (row_of self.old) head.new) (IfSome head.new.reply IsLawfulReply) }
+            moment word (arrival_of arrival.entry) (look_with (row_of self.old) head.new)
+            (IfSome head.new.reply IsLawfulReply) }
     {
         self.look_by(&Waits { rt }, moment, word, arrival, store, ends, head);
     }

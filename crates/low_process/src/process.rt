@@ -1,5 +1,6 @@
 // The low process of a session: its opening, what it holds, and the second half of a look.
-ghost use Rattle.std.specs.Prelude.{◌≡◌, ℕ, ◌+◌, ◌^◌, ◌≤◌, ◌<◌, Option, Some, None, Bool, true, false, List, IsTrue, IfSome, option_map};
+ghost use Rattle.std.specs.Prelude.{◌≡◌, ℕ, ◌+◌, ◌^◌, ◌≤◌, ◌<◌, Option, Some, None, Bool, true, false, List, IsTrue};
+ghost use Rattle.std.specs.Prelude.{IfSome, option_map};
 ghost use Rattle.std.specs.Option.{option_copied};
 ghost use Rattle.pump_core.specs.Exchanges.{is_fit, is_gone as gone};
 ghost use Rattle.low_process.specs.Hands.{HasNumber, is_hand_of, is_asked_of};
@@ -60,7 +61,10 @@ impl LowProcess {
     ghost use Rattle.low_process.specs.declared.values.Asking.TheVariants.{Forward as AsksForward};
     ghost use Rattle.pump_core.specs.Replies.{Sent, LowReplies};
     ghost use Rattle.pump_core.specs.ReplyFrames.{frame_of, IsLawfulReply};
-    ghost use Rattle.low_process.specs.Looks.{state_of, look_of, arrival_of, opening_of, IsLawful, IsHand, StandsFor, Asks, AsksFor, IsAnswerTo, AnswersTo, IsInBounds, Tells, Looks, HandBegins, IsBetweenLooks, row_of, made_coarse, next_of, last_of, is_down, is_idle, owes, hand_of, item_in_hand, hand_passed};
+    ghost use Rattle.low_process.specs.Looks.{state_of, look_of, arrival_of, opening_of, IsLawful, IsHand, StandsFor};
+    ghost use Rattle.low_process.specs.Looks.{Asks, AsksFor, IsAnswerTo, AnswersTo, IsInBounds, Tells, Looks};
+    ghost use Rattle.low_process.specs.Looks.{HandBegins, IsBetweenLooks, row_of, made_coarse, next_of, last_of};
+    ghost use Rattle.low_process.specs.Looks.{is_down, is_idle, owes, hand_of, item_in_hand, hand_passed};
     ghost use Rattle.low_process.specs.Steps.{Stepped, StepBegins};
     ghost use Rattle.low_process.specs.Storing.{message_in, wants};
     ghost use Rattle.low_process.specs.Ends.{number_offered};
@@ -314,7 +318,8 @@ impl LowProcess {
         requires lawful { IsLawful (arrival_of arrival) }
         ensures step { StepBegins self.old self.new moment word
             (arrival_of arrival.entry) is_fault (ask_with self.old.row self.new head.new result) }
-        ensures hand { HandBegins self.old self.new (arrival_of arrival.entry) (ask_with self.old.row self.new head.new result) }
+        ensures hand { HandBegins self.old self.new (arrival_of arrival.entry) (ask_with self.old.row self.new head.new
+            result) }
         ensures offers { is_down self.new ≡ false → number_offered self.new.next (hand_of self.new)
             ≡ number_offered self.old.next (hand_of self.old) }
         ensures row { self.new.row ≡ self.old.row }

@@ -41,7 +41,8 @@ impl Window {
         requires start { start ≤ 10 ^ 9 }
         ensures empty { IfOk result (λ window. HoldsTimes window []) }
         ensures count { IfOk result (λ window. count_of window ≡ 0) }
-        ensures averaging { IfOk result (λ window. averaging_in window ≡ record { window = m; start = start; coarse = false }) }
+        ensures averaging { IfOk result (λ window. averaging_in window
+            ≡ record { window = m; start = start; coarse = false }) }
     {
         let ring = HeapCircularBuffer::with_capacity(alloc, m as usize)?;
         Ok(Window {
@@ -117,7 +118,8 @@ impl Window {
     /// The mean of the last times, rounded down: of the window's size, or of all where there are
     /// fewer; the start where there is none. Of a coarse window it is the mean's level.
     pub fn average(&self) -> u32
-        ensures average { (times : List ℕ) → HoldsTimes self.now times → result ≡ average_of (averaging_in self.now) times }
+        ensures average { (times : List ℕ) → HoldsTimes self.now times
+            → result ≡ average_of (averaging_in self.now) times }
         ensures bound { result ≤ 10 ^ 9 }
     {
         down(&self.averaging(), self.mean())

@@ -86,7 +86,8 @@ impl<'a> DoorLog<'a> {
             role: side,
         };
         self.say(&format_args!(
-            "the {side} side of session {session} has ended: {why}. Its port {port} is closed, and the {other} side goes on to its own end; stop this relay and start it again"
+            "the {side} side of session {session} has ended: {why}. Its port {port} is closed, and the {other} side \
+            goes on to its own end; stop this relay and start it again"
         ));
     }
 
@@ -129,7 +130,8 @@ impl Watch for DoorLog<'_> {
         if let Some(row) = &self.row {
             if self.fullness.is_news(self.millis()) {
                 self.say(&format_args!(
-                    "the buffer of session {} has been full for a second, and Low waits; see that the receiver runs and keeps up",
+                    "the buffer of session {} has been full for a second, and Low waits; see that the receiver runs \
+                    and keeps up",
                     row.id
                 ));
             }

@@ -65,7 +65,9 @@ fn explain_message(rt: &HostRuntime, last: &[u8]) -> io::Result<()> {
     let line = fault_line(last).unwrap_or("");
     let number = field(line, 2);
     eprintln!(rt;
-        "netpump: line {number} of standard input is no message; write a message as two hexadecimal digits for each of its 1024 bytes at most, or - for no bytes, in a line of its own that ends with a newline and has no carriage return. Mend it and send all lines again: those that are stored are passed over"
+        "netpump: line {number} of standard input is no message; write a message as two hexadecimal digits for each \
+        of its 1024 bytes at most, or - for no bytes, in a line of its own that ends with a newline and has no \
+        carriage return. Mend it and send all lines again: those that are stored are passed over"
     )
 }
 
@@ -74,11 +76,14 @@ fn explain_script(rt: &HostRuntime, last: &[u8]) -> io::Result<()> {
         Some(line) => {
             let number = field(line, 2);
             eprintln!(rt;
-                "netpump: line {number} of the script is written wrong or can't be applied there; mend it and replay the script again. Each line, the last one too, ends with a newline that no carriage return stands before (docs/formats.md, \"Scripts\", tells how lines are written and when they can be applied)"
+                "netpump: line {number} of the script is written wrong or can't be applied there; mend it and replay \
+                the script again. Each line, the last one too, ends with a newline that no carriage return stands \
+                before (docs/formats.md, \"Scripts\", tells how lines are written and when they can be applied)"
             )
         }
         None => eprintln!(rt;
-            "netpump: a line of the script is written wrong or can't be applied there; the last line of the output has its number"
+            "netpump: a line of the script is written wrong or can't be applied there; the last line of the output \
+            has its number"
         ),
     }
 }
@@ -93,10 +98,12 @@ fn explain_device(rt: &HostRuntime, last: &[u8], trouble: Trouble) -> io::Result
             session,
             role,
             why,
-            "see that its disk has room and that the file is yours to write, and go on with what was not acknowledged. What was acknowledged is kept",
+            "see that its disk has room and that the file is yours to write, and go on with what was not \
+            acknowledged. What was acknowledged is kept",
         ),
         _ => eprintln!(rt;
-            "netpump: the device of the low disk fails in a store, as a line with the word fault tells; write fine in its place to go on. What was said until then is answered above"
+            "netpump: the device of the low disk fails in a store, as a line with the word fault tells; write fine \
+            in its place to go on. What was said until then is answered above"
         ),
     }
 }
@@ -109,7 +116,8 @@ fn explain_beside(rt: &HostRuntime, last: &[u8], trouble: Trouble) -> io::Result
     match trouble {
         Trouble::Failed(why) | Trouble::Unread(why) => explain_unread_disk(rt, session, role, why),
         _ => eprintln!(rt;
-            "netpump: the file {session}.{role} in this folder could not be read; see that it is there and that it is yours to read, and try again"
+            "netpump: the file {session}.{role} in this folder could not be read; see that it is there and that it \
+            is yours to read, and try again"
         ),
     }
 }
@@ -119,13 +127,16 @@ fn explain_unread(rt: &HostRuntime, words: &[String], trouble: Trouble) -> io::R
     match (trouble, word(words, 0)) {
         (Trouble::Unread(why), _) => explain_table_file(rt, table, why),
         (_, Some("serve")) => eprintln!(rt;
-            "netpump: the 32 bytes of the relay's key could not be read from /dev/urandom; see that this machine has it and that it is yours to read, and try again"
+            "netpump: the 32 bytes of the relay's key could not be read from /dev/urandom; see that this machine has \
+            it and that it is yours to read, and try again"
         ),
         (_, Some("wrap")) => eprintln!(rt;
-            "netpump: the file on standard input could not be read to its end; see that it is a file or a pipe, and not a folder, and wrap it again: what was sent of it is passed over"
+            "netpump: the file on standard input could not be read to its end; see that it is a file or a pipe, and \
+            not a folder, and wrap it again: what was sent of it is passed over"
         ),
         _ => eprintln!(rt;
-            "netpump: standard input could not be read to its end; see that it is a file or a pipe, and not a folder. What it said until then is answered above"
+            "netpump: standard input could not be read to its end; see that it is a file or a pipe, and not a \
+            folder. What it said until then is answered above"
         ),
     }
 }
@@ -142,13 +153,15 @@ fn explain_table(rt: &HostRuntime, words: &[String], last: &[u8]) -> io::Result<
     let session = field(line, 3);
     match field(line, 2) {
         "10" => eprintln!(rt;
-            "netpump: the file {table} has more than 65,536 bytes, which no table has; name the right file, or take out what is no row"
+            "netpump: the file {table} has more than 65,536 bytes, which no table has; name the right file, or take \
+            out what is no row"
         ),
         "11" => eprintln!(rt;
             "netpump: no row of the table {table} has id = {session}; name a session that has one, or add it"
         ),
         "12" => eprintln!(rt;
-            "netpump: the messages of session {session} have fewer than 9 bytes in the table {table}, and a file needs as many; name a session that has longer ones"
+            "netpump: the messages of session {session} have fewer than 9 bytes in the table {table}, and a file \
+            needs as many; name a session that has longer ones"
         ),
         "13" => explain_same(rt, words, session),
         _ => match fault_of_table(rt, table) {

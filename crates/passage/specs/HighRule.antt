@@ -18,22 +18,24 @@ abbrev pub CountsTimes : HighView → Type 0
 CountsTimes v = (length v.taken_before ≡ length v.times) × All (λ n. n ≤ v.taken) v.taken_before
 
 -- the one writer knows the row, and what was published and taken up
-pub record IsWriter (x : HighWord) (writer : ℕ) (published : List ℕ) (s : Shape) (pass : ℕ) (v : HighView) : Type 0 where
-  pub one : pass ≡ writer
-  pub times : v.times ≡ published
-  pub row : shape_told v ≡ s
-  pub taken : v.taken ≡ x.taken
-  pub counts : CountsTimes v
+pub record IsWriter (x : HighWord) (writer : ℕ) (published : List ℕ) (s : Shape) (pass : ℕ) (v : HighView) : Type 0
+  where
+    pub one : pass ≡ writer
+    pub times : v.times ≡ published
+    pub row : shape_told v ≡ s
+    pub taken : v.taken ≡ x.taken
+    pub counts : CountsTimes v
 
 -- the one reader knows the places; no number that it found is above the cell's, and each pair that
 -- it read was the average once
-pub record IsReader (x : HighWord) (reader : ℕ) (published : List ℕ) (s : Shape) (pass : ℕ) (v : HighView) : Type 0 where
-  pub one : pass ≡ reader
-  pub averages : All (IsAverage s published) v.pairs
-  pub never_fall : NeverFall v.pairs
-  pub tries : All (λ t. t.1 ≤ x.taken) v.tries
-  pub found : v.found ≤ x.taken
-  pub room : v.room ≡ s.places
+pub record IsReader (x : HighWord) (reader : ℕ) (published : List ℕ) (s : Shape) (pass : ℕ) (v : HighView) : Type 0
+  where
+    pub one : pass ≡ reader
+    pub averages : All (IsAverage s published) v.pairs
+    pub never_fall : NeverFall v.pairs
+    pub tries : All (λ t. t.1 ≤ x.taken) v.tries
+    pub found : v.found ≤ x.taken
+    pub room : v.room ≡ s.places
 
 abbrev pub HighFits : HighWord → ℕ → ℕ → List ℕ → Shape → ℕ → HighView → Type 0
 HighFits x writer reader published s pass v =
@@ -55,7 +57,20 @@ no_averaging = record { window = 0; start = 0; coarse = false }
 
 -- before any step, with both roles in one view and a row of zeroes
 abbrev pub high_first : HighView
-high_first = record { writes = true; places = 0; averaging = no_averaging; taken = 0; floor = 0; times = []; taken_before = []; reads = true; room = 0; found = 0; tries = []; pairs = [] }
+high_first = record {
+  writes = true;
+  places = 0;
+  averaging = no_averaging;
+  taken = 0;
+  floor = 0;
+  times = [];
+  taken_before = [];
+  reads = true;
+  room = 0;
+  found = 0;
+  tries = [];
+  pairs = [];
+}
 
 -- the first swap puts the row into the view
 abbrev pub with_row : HighView → ℕ → Averaging → HighView
@@ -89,13 +104,39 @@ abbrev pub high_writer : HighView → HighView
 high_writer v = record v { reads = false; room = 0; found = 0; tries = []; pairs = [] }
 
 abbrev pub high_reader : HighView → HighView
-high_reader v = record { writes = false; places = 0; averaging = no_averaging; taken = 0; floor = 0; times = []; taken_before = []; reads = v.reads; room = v.room; found = v.found; tries = v.tries; pairs = v.pairs }
+high_reader v = record {
+  writes = false;
+  places = 0;
+  averaging = no_averaging;
+  taken = 0;
+  floor = 0;
+  times = [];
+  taken_before = [];
+  reads = v.reads;
+  room = v.room;
+  found = v.found;
+  tries = v.tries;
+  pairs = v.pairs;
+}
 
 abbrev pub high_both : HighView → HighView → HighView
 high_both v w = record v { reads = w.reads; room = w.room; found = w.found; tries = w.tries; pairs = w.pairs }
 
 abbrev pub high_spent : HighView
-high_spent = record { writes = false; places = 0; averaging = no_averaging; taken = 0; floor = 0; times = []; taken_before = []; reads = false; room = 0; found = 0; tries = []; pairs = [] }
+high_spent = record {
+  writes = false;
+  places = 0;
+  averaging = no_averaging;
+  taken = 0;
+  floor = 0;
+  times = [];
+  taken_before = [];
+  reads = false;
+  room = 0;
+  found = 0;
+  tries = [];
+  pairs = [];
+}
 
 -- what a view with both roles knows
 pub record HighTies (v : HighView) : Type 0 where

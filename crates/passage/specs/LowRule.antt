@@ -26,7 +26,10 @@ with_forwarded v = record v { forwarded = v.forwarded + 1 }
 
 -- a look for the next item is a try where as many were forwarded as were taken up
 abbrev pub with_seek : ℕ → LowView → ℕ → LowView
-with_seek taken v forwarded = record v { tries = v.tries ++ (if forwarded == taken then (forwarded, taken) ∷ [] else []) }
+with_seek taken v forwarded = record v {
+  tries = v.tries ++ (if forwarded == taken then (forwarded, taken) ∷ [] else
+      []);
+}
 
 -- a view is parted into the two roles, and a reader's view is taken in
 abbrev pub low_writer : LowView → LowView

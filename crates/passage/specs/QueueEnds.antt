@@ -31,7 +31,11 @@ low_shape e = record { places = e.places; averaging = e.averaging }
 
 -- what it did, as its passes tell
 abbrev pub low_side : QueueLow → Low
-low_side e = record { forwarded = (view e.sent).forwarded; tries = (cell_view e.read).tries; pairs = (cell_view e.read).pairs }
+low_side e = record {
+  forwarded = (view e.sent).forwarded;
+  tries = (cell_view e.read).tries;
+  pairs = (cell_view e.read).pairs;
+}
 
 abbrev pub LowEndStands : QueueLow → Low → High → Type 0
 LowEndStands e l h = IsLow e × (l ≡ low_side e)

@@ -4,7 +4,8 @@ ghost use Rattle.crossbeam_queue.specs.Passes.{view};
 ghost use Rattle.crossbeam_utils.specs.Register.{Turns};
 ghost use Rattle.crossbeam_utils.specs.Seq.{cell_view, IsSamePass};
 ghost use Rattle.pump_frame.specs.Averages.{average_of};
-ghost use Rattle.passage.specs.HighRule.{HighKept, no_averaging, with_row, with_try, with_pair, PairsUpTo, with_taken, with_time, high_first};
+ghost use Rattle.passage.specs.HighRule.{HighKept, no_averaging, with_row, with_try, with_pair, PairsUpTo, with_taken};
+ghost use Rattle.passage.specs.HighRule.{with_time, high_first};
 
 use crate::high_cell::{
     FindsPair, FindsTaken, HighCell, HighPass, HighWord, LowTry, RemovedTold, RowTold, TellsRow,
@@ -37,7 +38,8 @@ impl RowTold for Brand {
 fn finding_taken<K: LowTry>(pass: &HighPass)
     requires idle { (cell_view pass.now).writes ≡ false }
     requires reads { (cell_view pass.now).reads ≡ true }
-    ensures { Turns HighKept pass.now.id (cell_view pass.now) (λ x. x) (λ v x y w. (y ≡ x) × (w ≡ with_try K.forwarded v x.taken) × (v.found ≤ x.taken)) }
+    ensures { Turns HighKept pass.now.id (cell_view pass.now) (λ x. x) (λ v x y w. (y ≡ x)
+        × (w ≡ with_try K.forwarded v x.taken) × (v.found ≤ x.taken)) }
 {}
 
 fn load_taken<K: LowTry, R: Wait>(
@@ -72,7 +74,8 @@ pub fn find_taken<R: Wait>(rt: &R, cell: &HighCell, pass: &mut HighPass, forward
 fn finding_pair(pass: &HighPass)
     requires idle { (cell_view pass.now).writes ≡ false }
     requires reads { (cell_view pass.now).reads ≡ true }
-    ensures { Turns HighKept pass.now.id (cell_view pass.now) (λ x. x) (λ v x y w. (y ≡ x) × (w ≡ with_pair v x.count x.average) × PairsUpTo v x.count) }
+    ensures { Turns HighKept pass.now.id (cell_view pass.now) (λ x. x) (λ v x y w. (y ≡ x)
+        × (w ≡ with_pair v x.count x.average) × PairsUpTo v x.count) }
 {}
 
 /// The low end's load for a pair.
@@ -145,7 +148,8 @@ fn telling_time<K: TimeTold>(pass: &HighPass, word: HighWord)
     requires idle { (cell_view pass.now).reads ≡ false }
     requires taken { word.taken ≡ (cell_view pass.now).taken }
     requires count { word.count ≡ length ((cell_view pass.now).times ++ K.micros ∷ []) }
-    requires average { word.average ≡ average_of (cell_view pass.now).averaging ((cell_view pass.now).times ++ K.micros ∷ []) }
+    requires average { word.average
+        ≡ average_of (cell_view pass.now).averaging ((cell_view pass.now).times ++ K.micros ∷ []) }
     ensures { Turns HighKept pass.now.id (cell_view pass.now) (λ _. word) (λ v x y w. w ≡ with_time v K.micros) }
 {}
 
@@ -160,7 +164,8 @@ fn swap_time<K: TimeTold, R: Wait>(
     requires role { ((cell_view pass.old).writes ≡ true) × ((cell_view pass.old).reads ≡ false) }
     requires taken { word.taken ≡ (cell_view pass.old).taken }
     requires count { word.count ≡ length ((cell_view pass.old).times ++ micros ∷ []) }
-    requires average { word.average ≡ average_of (cell_view pass.old).averaging ((cell_view pass.old).times ++ micros ∷ []) }
+    requires average { word.average
+        ≡ average_of (cell_view pass.old).averaging ((cell_view pass.old).times ++ micros ∷ []) }
     requires time { micros ≡ K.micros }
     ensures cell { IsSamePass pass.old pass.new }
     ensures rule { cell_view pass.new ≡ with_time (cell_view pass.old) micros }
@@ -175,7 +180,8 @@ pub fn tell_time<R: Wait>(rt: &R, cell: &HighCell, pass: &mut HighPass, word: Hi
     requires role { ((cell_view pass.old).writes ≡ true) × ((cell_view pass.old).reads ≡ false) }
     requires taken { word.taken ≡ (cell_view pass.old).taken }
     requires count { word.count ≡ length ((cell_view pass.old).times ++ micros ∷ []) }
-    requires average { word.average ≡ average_of (cell_view pass.old).averaging ((cell_view pass.old).times ++ micros ∷ []) }
+    requires average { word.average
+        ≡ average_of (cell_view pass.old).averaging ((cell_view pass.old).times ++ micros ∷ []) }
     ensures cell { IsSamePass pass.old pass.new }
     ensures rule { cell_view pass.new ≡ with_time (cell_view pass.old) micros }
 {
@@ -188,7 +194,8 @@ fn telling_row<K: RowTold>(pass: &HighPass, word: HighWord)
     requires count { word.count ≡ 0 }
     requires average { word.average ≡ average_of K.averaging [] }
     requires taken { word.taken ≡ 0 }
-    ensures { Turns HighKept pass.now.id (cell_view pass.now) (λ _. word) (λ v x y w. w ≡ with_row v K.places K.averaging) }
+    ensures { Turns HighKept pass.now.id (cell_view pass.now) (λ _. word) (λ v x y w. w
+        ≡ with_row v K.places K.averaging) }
 {}
 
 fn swap_row<K: RowTold, R: Wait>(

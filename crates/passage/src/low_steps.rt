@@ -45,7 +45,8 @@ pub fn tell_forwarded<R: Wait>(
 fn finding_forwarded<K: HighTry>(pass: &LowPass)
     requires idle { (cell_view pass.now).writes ≡ false }
     requires reads { (cell_view pass.now).reads ≡ true }
-    ensures { Turns LowKept pass.now.id (cell_view pass.now) (λ x. x) (λ v x y w. (y ≡ x) × (w ≡ with_seek K.taken v x.forwarded)) }
+    ensures { Turns LowKept pass.now.id (cell_view pass.now) (λ x. x) (λ v x y w. (y ≡ x)
+        × (w ≡ with_seek K.taken v x.forwarded)) }
 {}
 
 fn load_forwarded<K: HighTry, R: Wait>(

@@ -30,12 +30,14 @@ fn learning_of_queue(pass: &QueuePass)
 
 pub fn parting_queue(pass: &QueuePass)
     requires { (view pass.now).pops ≡ true }
-    ensures { ForksInQueue QueueKept pass.now.id (view pass.now) (queue_pusher (view pass.now)) (queue_popper (view pass.now)) }
+    ensures { ForksInQueue QueueKept pass.now.id (view pass.now) (queue_pusher (view pass.now))
+        (queue_popper (view pass.now)) }
 {}
 
 pub fn parting_high(pass: &HighPass)
     requires { (cell_view pass.now).reads ≡ true }
-    ensures { Forks HighKept pass.now.id (cell_view pass.now) (high_writer (cell_view pass.now)) (high_reader (cell_view pass.now)) }
+    ensures { Forks HighKept pass.now.id (cell_view pass.now) (high_writer (cell_view pass.now))
+        (high_reader (cell_view pass.now)) }
 {}
 
 fn merging_high(told: &HighPass, reader: &HighPass)
@@ -52,7 +54,8 @@ fn learning_of_high(pass: &HighPass)
 {}
 
 pub fn parting_low(pass: &LowPass)
-    ensures { Forks LowKept pass.now.id (cell_view pass.now) (low_writer (cell_view pass.now)) (low_reader (cell_view pass.now)) }
+    ensures { Forks LowKept pass.now.id (cell_view pass.now) (low_writer (cell_view pass.now))
+        (low_reader (cell_view pass.now)) }
 {}
 
 fn merging_low(told: &LowPass, seeker: &LowPass)

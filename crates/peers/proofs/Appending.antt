@@ -6,7 +6,7 @@ use Rattle.pump_link.specs.declared.link.Looked.{Looked}
 use Rattle.pump_link.specs.declared.link.Looked.TheVariants.{Byte}
 use Rattle.peers.specs.declared.append.AppendEnd.{AppendEnd}
 use Rattle.peers.specs.declared.append.AppendEnd.TheVariants.{Done, Read, Write, Script, Refused, Unfinished, Elsewhere}
-use Rattle.peers.specs.declared.ask.Wanted.{Wanted}
+use Rattle.peers.specs.declared.asking.Wanted.{Wanted}
 use Rattle.peers.specs.Appending.{Line, AreLines, payloads, texts, Flight, flying, acks, IsCut, Prints, Turn, messages}
 use Rattle.peers.specs.Looks.{HearsJust, bytes_in}
 use Rattle.peers.specs.Sending.{Wait, Answers, ack_line}
@@ -27,7 +27,7 @@ some_looks looks passed f heard = elim heard.prompt [
   | inl none ↦ (let bytes : [] ≡ spellings (passed ++ f ∷ []) ++ [] = sym (ap bytes_in none) ∙ heard.stream.2 in
       let short : 0 ≡ length (spellings (passed ++ f ∷ []) ++ []) = ap length bytes in
       absurd (omega (arith, short, some_spelled passed f [])))
-  | inr (front, byte, is) ↦ (let long : length looks ≡ length front + 1 = ap length is ∙ length-append front (Byte byte ∷ []) in omega (arith, long))
+  | inr (prefix, byte, is) ↦ (let long : length looks ≡ length prefix + 1 = ap length is ∙ length-append prefix (Byte byte ∷ []) in omega (arith, long))
 ]
 
 pub answer_looks : (session : ℕ) (w : Wanted) (wait : Wait) (f : Frame) → Answers session w wait f → 0 < length wait.looks
@@ -62,11 +62,11 @@ messages_length (t ∷ past) = omega (arith, messages_length past)
 -- what is printed behind the acknowledgements of earlier messages
 cut_append : (first : ℕ) (xs ys : List (List ℕ)) (printed : List ℕ) → IsCut (first + length ys) xs printed → IsCut first (xs ++ ys) (acks first ys ++ printed)
 cut_append first [] ys printed c = absurd c
-cut_append first (x ∷ xs) ys printed (front, is, whole) =
+cut_append first (x ∷ xs) ys printed (prefix, is, whole) =
     let place : first + length ys + length xs ≡ first + length (xs ++ ys) = omega (arith, length-append xs ys) in (
-      front,
-      subst (λ n. (rest : List ℕ) × (ack_line n ≡ front ++ rest)) place is,
-      ap (λ (l : List ℕ). acks first ys ++ l) whole ∙ sym (append_assoc (acks first ys) (acks (first + length ys) xs) front) ∙ ap (λ (l : List ℕ). l ++ front) (sym (acks_append first xs ys)),
+      prefix,
+      subst (λ n. (rest : List ℕ) × (ack_line n ≡ prefix ++ rest)) place is,
+      ap (λ (l : List ℕ). acks first ys ++ l) whole ∙ sym (append_assoc (acks first ys) (acks (first + length ys) xs) prefix) ∙ ap (λ (l : List ℕ). l ++ prefix) (sym (acks_append first xs ys)),
     )
 
 pub prints_append : (end : Option AppendEnd) (first : ℕ) (xs ys : List (List ℕ)) (printed : List ℕ) → Prints end (first + length ys) xs printed → Prints end first (xs ++ ys) (acks first ys ++ printed)

@@ -35,7 +35,7 @@ Heard most looks fs Stop = HearsJust looks fs
 
 -- ---- looks ----
 
--- of two fronts of one list one is a front of the other
+-- of two prefixes of one list one is a prefix of the other
 pub one_longer : {A : Type 0} (a b r s : List A) → a ++ r ≡ b ++ s → ((m : List A) × (b ≡ a ++ m)) ⊎ ((m : List A) × (a ≡ b ++ m))
 one_longer [] b r s e = inl (b, refl)
 one_longer (x ∷ a) [] r s e = inr (x ∷ a, refl)
@@ -47,38 +47,38 @@ one_longer {A = A} (x ∷ a) (y ∷ b) r s e =
       | inr (m, e') ↦ inr (m, ap (λ (l : List A). x ∷ l) e' ∙ ap (λ (z : A). z ∷ (b ++ m)) here)
     ]
 
-no_ended : (front m : List Looked) → AreCalm (front ++ Ended ∷ m) → ⊥
+no_ended : (prefix m : List Looked) → AreCalm (prefix ++ Ended ∷ m) → ⊥
 no_ended [] m c = c
-no_ended (Byte b ∷ front) m c = no_ended front m c
-no_ended (NotYet ∷ front) m c = no_ended front m c
-no_ended (Ended ∷ front) m c = c
-no_ended (Failed ∷ front) m c = c
+no_ended (Byte b ∷ prefix) m c = no_ended prefix m c
+no_ended (NotYet ∷ prefix) m c = no_ended prefix m c
+no_ended (Ended ∷ prefix) m c = c
+no_ended (Failed ∷ prefix) m c = c
 
 -- the end is the last of looks that are calm but for the last
-ended_last : (front other m : List Looked) (last : Looked) → AreCalm front → front ++ last ∷ [] ≡ other ++ Ended ∷ m → (last ≡ Ended) × (m ≡ []) × (front ≡ other)
+ended_last : (prefix other m : List Looked) (last : Looked) → AreCalm prefix → prefix ++ last ∷ [] ≡ other ++ Ended ∷ m → (last ≡ Ended) × (m ≡ []) × (prefix ≡ other)
 ended_last [] [] m last c e = (cc, cc, refl)
 ended_last [] (y ∷ []) m last c e = cc
 ended_last [] (y ∷ (z ∷ other)) m last c e = cc
-ended_last (x ∷ front) [] m last c e =
+ended_last (x ∷ prefix) [] m last c e =
     let is : x ≡ Ended = cc in
-    absurd (subst (λ (l : Looked). AreCalm (l ∷ front)) is c)
-ended_last (Byte b ∷ front) (y ∷ other) m last c e =
-    let r = ended_last front other m last c cc in
+    absurd (subst (λ (l : Looked). AreCalm (l ∷ prefix)) is c)
+ended_last (Byte b ∷ prefix) (y ∷ other) m last c e =
+    let r = ended_last prefix other m last c cc in
     (r.0, r.1, cc)
-ended_last (NotYet ∷ front) (y ∷ other) m last c e =
-    let r = ended_last front other m last c cc in
+ended_last (NotYet ∷ prefix) (y ∷ other) m last c e =
+    let r = ended_last prefix other m last c cc in
     (r.0, r.1, cc)
-ended_last (Ended ∷ front) (y ∷ other) m last c e = absurd c
-ended_last (Failed ∷ front) (y ∷ other) m last c e = absurd c
+ended_last (Ended ∷ prefix) (y ∷ other) m last c e = absurd c
+ended_last (Failed ∷ prefix) (y ∷ other) m last c e = absurd c
 
--- what stands before the last look has all of a shorter front
-before_last : (front a m : List Looked) (last x : Looked) → front ++ last ∷ [] ≡ a ++ x ∷ m → (n : List Looked) × (front ≡ a ++ n)
-before_last front [] m last x e = (front, refl)
+-- what stands before the last look has all of a shorter prefix
+before_last : (prefix a m : List Looked) (last x : Looked) → prefix ++ last ∷ [] ≡ a ++ x ∷ m → (n : List Looked) × (prefix ≡ a ++ n)
+before_last prefix [] m last x e = (prefix, refl)
 before_last [] (y ∷ []) m last x e = cc
 before_last [] (y ∷ (z ∷ a)) m last x e = cc
-before_last (w ∷ front) (y ∷ a) m last x e =
+before_last (w ∷ prefix) (y ∷ a) m last x e =
     let here : w ≡ y = cc in
-    let r = before_last front a m last x cc in
+    let r = before_last prefix a m last x cc in
     (r.0, ap (λ (l : List Looked). w ∷ l) r.1 ∙ ap (λ (z : Looked). z ∷ (a ++ r.0)) here)
 
 -- ---- frames ----
@@ -105,14 +105,14 @@ longer a m fs gs s t first all =
     record { later = parts.2; are = parts.5 ∙ ap (λ (l : List Frame). l ++ parts.2) same.0; goes_on = subst Q same.1 parts.4 }
 
 -- the reading that a tail has
-ended_bytes : (front : List Looked) → bytes_in (front ++ Ended ∷ []) ≡ bytes_in front
-ended_bytes front = bytes_append front (Ended ∷ []) ∙ append-nil (bytes_in front)
+ended_bytes : (prefix : List Looked) → bytes_in (prefix ++ Ended ∷ []) ≡ bytes_in prefix
+ended_bytes prefix = bytes_append prefix (Ended ∷ []) ∙ append-nil (bytes_in prefix)
 
 pub reading_of : (most : ℕ) (looks : List Looked) (fs : List Frame) (t : Tail) → Heard most looks fs t → (s : Reading) × IsStream (bytes_in looks) (all_of fs t) s
 reading_of most looks fs Used h = (Within h.0.rest, h.0.stream)
-reading_of most looks fs Ends (front, e, h) =
+reading_of most looks fs Ends (prefix, e, h) =
     let P : List ℕ → Type 0 = λ bytes. IsStream bytes fs (Within h.rest) in
-    (Within h.rest, subst P (sym (ap bytes_in e ∙ ended_bytes front)) h.stream)
+    (Within h.rest, subst P (sym (ap bytes_in e ∙ ended_bytes prefix)) h.stream)
 reading_of most looks fs Bad h = (Stopped h.1, h.3)
 reading_of most looks fs (Last f) h = (Within [], h.stream)
 reading_of most looks fs Stop h = (Within [], h.stream)
@@ -142,8 +142,8 @@ unfolding reading_of
 bad_first most la lb m fs gs Used at e stream k =
     let P : List Looked → Type 0 = λ l. IsStream (bytes_in l) gs (Within k.0.rest) in
     let wrong : Within k.0.rest ≡ Stopped at = stuck la m fs gs at (Within k.0.rest) stream (subst P e k.0.stream) in cc
-bad_first most la lb m fs gs Ends at e stream (front, is, k) =
-    let r = reading_of most lb gs Ends (front, is, k) in
+bad_first most la lb m fs gs Ends at e stream (prefix, is, k) =
+    let r = reading_of most lb gs Ends (prefix, is, k) in
     let P : List Looked → Type 0 = λ l. IsStream (bytes_in l) gs (Within k.rest) in
     let wrong : Within k.rest ≡ Stopped at = stuck la m fs gs at (Within k.rest) stream (subst P e r.1) in cc
 bad_first most la lb m fs gs (Last f) at e stream k =
@@ -156,8 +156,8 @@ bad_first most la lb [] fs gs Bad at e stream (byte, at', ends, stream') =
     let same : la ≡ lb = sym (e ∙ append-nil la) in
     let P : List Looked → Type 0 = λ l. IsStream (bytes_in l) fs (Stopped at) in
     AreSame same (let o = reads_one (bytes_in lb) (Within []) fs gs (Stopped at) (Stopped at') (stream_reads (bytes_in lb) fs (Stopped at) (subst P same stream)) (stream_reads (bytes_in lb) gs (Stopped at') stream') in o.0) refl
-bad_first most la lb (x ∷ m) fs gs Bad at e stream (byte, at', (front, is, k), stream') =
-    let r = before_last front la m (Byte byte) x (sym is ∙ e) in
+bad_first most la lb (x ∷ m) fs gs Bad at e stream (byte, at', (prefix, is, k), stream') =
+    let r = before_last prefix la m (Byte byte) x (sym is ∙ e) in
     let P : List Looked → Type 0 = λ l. IsStream (bytes_in l) gs (Within k.rest) in
     let wrong : Within k.rest ≡ Stopped at = stuck la r.0 fs gs at (Within k.rest) stream (subst P r.1 k.stream) in cc
 
@@ -177,9 +177,9 @@ ordered most la lb m fs gs Used Used e le h k =
     let same = none_more la lb m e (omega (arith, le, h.1)) in
     let P : List Looked → Type 0 = λ l. IsStream (bytes_in l) fs (Within h.0.rest) in
     AreSame same (let o = reads_one (bytes_in lb) (Within []) fs gs (Within h.0.rest) (Within k.0.rest) (stream_reads (bytes_in lb) fs (Within h.0.rest) (subst P same h.0.stream)) (stream_reads (bytes_in lb) gs (Within k.0.rest) k.0.stream) in o.0) refl
-ordered most la lb m fs gs Used Ends e le h (front, is, k) =
+ordered most la lb m fs gs Used Ends e le h (prefix, is, k) =
     let same = none_more la lb m e (omega (arith, le, h.1)) in
-    absurd (no_ended front [] (subst AreCalm (same ∙ is) h.0.calm))
+    absurd (no_ended prefix [] (subst AreCalm (same ∙ is) h.0.calm))
 ordered most la lb m fs gs Used Bad e le h k =
     let same = none_more la lb m e (omega (arith, le, h.1)) in
     let P : List Looked → Type 0 = λ l. IsStream (bytes_in l) fs (Within h.0.rest) in
@@ -195,26 +195,26 @@ ordered most la lb m fs gs Used Stop e le h k =
     let P : List Looked → Type 0 = λ l. IsStream (bytes_in l) fs (Within h.0.rest) in
     let o = reads_one (bytes_in lb) (Within []) fs gs (Within h.0.rest) (Within []) (stream_reads (bytes_in lb) fs (Within h.0.rest) (subst P same h.0.stream)) (stream_reads (bytes_in lb) gs (Within []) k.stream) in
     SecondStops tt [] (o.0 ∙ sym (append-nil gs))
-ordered most la lb m fs gs Ends Used e le (front, is, h) k =
-    let at : lb ≡ front ++ Ended ∷ m = e ∙ ap (λ (l : List Looked). l ++ m) is ∙ append_assoc front (Ended ∷ []) m in
-    absurd (no_ended front m (subst AreCalm at k.0.calm))
-ordered most la lb m fs gs Ends (Last f) e le (front, is, h) k =
-    let at : lb ≡ front ++ Ended ∷ m = e ∙ ap (λ (l : List Looked). l ++ m) is ∙ append_assoc front (Ended ∷ []) m in
-    absurd (no_ended front m (subst AreCalm at k.calm))
-ordered most la lb m fs gs Ends Stop e le (front, is, h) k =
-    let at : lb ≡ front ++ Ended ∷ m = e ∙ ap (λ (l : List Looked). l ++ m) is ∙ append_assoc front (Ended ∷ []) m in
-    absurd (no_ended front m (subst AreCalm at k.calm))
-ordered most la lb m fs gs Ends Bad e le (front, is, h) (byte, at, (other, is', k), stream) =
-    let where_it_is : lb ≡ front ++ Ended ∷ m = e ∙ ap (λ (l : List Looked). l ++ m) is ∙ append_assoc front (Ended ∷ []) m in
-    let r = ended_last other front m (Byte byte) k.calm (sym is' ∙ where_it_is) in
+ordered most la lb m fs gs Ends Used e le (prefix, is, h) k =
+    let at : lb ≡ prefix ++ Ended ∷ m = e ∙ ap (λ (l : List Looked). l ++ m) is ∙ append_assoc prefix (Ended ∷ []) m in
+    absurd (no_ended prefix m (subst AreCalm at k.0.calm))
+ordered most la lb m fs gs Ends (Last f) e le (prefix, is, h) k =
+    let at : lb ≡ prefix ++ Ended ∷ m = e ∙ ap (λ (l : List Looked). l ++ m) is ∙ append_assoc prefix (Ended ∷ []) m in
+    absurd (no_ended prefix m (subst AreCalm at k.calm))
+ordered most la lb m fs gs Ends Stop e le (prefix, is, h) k =
+    let at : lb ≡ prefix ++ Ended ∷ m = e ∙ ap (λ (l : List Looked). l ++ m) is ∙ append_assoc prefix (Ended ∷ []) m in
+    absurd (no_ended prefix m (subst AreCalm at k.calm))
+ordered most la lb m fs gs Ends Bad e le (prefix, is, h) (byte, at, (other, is', k), stream) =
+    let where_it_is : lb ≡ prefix ++ Ended ∷ m = e ∙ ap (λ (l : List Looked). l ++ m) is ∙ append_assoc prefix (Ended ∷ []) m in
+    let r = ended_last other prefix m (Byte byte) k.calm (sym is' ∙ where_it_is) in
     let wrong : Byte byte ≡ Ended = r.0 in cc
-ordered most la lb m fs gs Ends Ends e le (front, is, h) (other, is', k) =
-    let where_it_is : lb ≡ front ++ Ended ∷ m = e ∙ ap (λ (l : List Looked). l ++ m) is ∙ append_assoc front (Ended ∷ []) m in
-    let r = ended_last other front m Ended k.calm (sym is' ∙ where_it_is) in
-    let same : other ≡ front = r.2 in
+ordered most la lb m fs gs Ends Ends e le (prefix, is, h) (other, is', k) =
+    let where_it_is : lb ≡ prefix ++ Ended ∷ m = e ∙ ap (λ (l : List Looked). l ++ m) is ∙ append_assoc prefix (Ended ∷ []) m in
+    let r = ended_last other prefix m Ended k.calm (sym is' ∙ where_it_is) in
+    let same : other ≡ prefix = r.2 in
     let P : List Looked → Type 0 = λ l. IsStream (bytes_in l) gs (Within k.rest) in
     AreSame (is ∙ ap (λ (l : List Looked). l ++ Ended ∷ []) (sym same) ∙ sym is')
-    (let o = reads_one (bytes_in front) (Within []) fs gs (Within h.rest) (Within k.rest) (stream_reads (bytes_in front) fs (Within h.rest) h.stream) (stream_reads (bytes_in front) gs (Within k.rest) (subst P same k.stream)) in o.0) refl
+    (let o = reads_one (bytes_in prefix) (Within []) fs gs (Within h.rest) (Within k.rest) (stream_reads (bytes_in prefix) fs (Within h.rest) h.stream) (stream_reads (bytes_in prefix) gs (Within k.rest) (subst P same k.stream)) in o.0) refl
 ordered most la lb m fs gs Bad u e le (byte, at, ends, stream) k = bad_first most la lb m fs gs u at e stream k
 
 pub compared : (most : ℕ) (la lb r s : List Looked) (fs gs : List Frame) (t u : Tail) → la ++ r ≡ lb ++ s → length la ≤ most → length lb ≤ most → Heard most la fs t → Heard most lb gs u → Compared la lb fs gs t u

@@ -120,11 +120,11 @@ both_heard xs ys fs gs s h stream =
 pub hears_none : HearsJust [] []
 hears_none = record { calm = tt; stream = (tt, nothing_partial, refl); prompt = inl refl }
 
-prompt_join : (xs ys : List Looked) → (xs ≡ []) ⊎ ((front : List Looked) × (byte : ℕ) × (xs ≡ front ++ Byte byte ∷ [])) → (ys ≡ []) ⊎ ((front : List Looked) × (byte : ℕ) × (ys ≡ front ++ Byte byte ∷ []))
-    → (xs ++ ys ≡ []) ⊎ ((front : List Looked) × (byte : ℕ) × (xs ++ ys ≡ front ++ Byte byte ∷ []))
+prompt_join : (xs ys : List Looked) → (xs ≡ []) ⊎ ((prefix : List Looked) × (byte : ℕ) × (xs ≡ prefix ++ Byte byte ∷ [])) → (ys ≡ []) ⊎ ((prefix : List Looked) × (byte : ℕ) × (ys ≡ prefix ++ Byte byte ∷ []))
+    → (xs ++ ys ≡ []) ⊎ ((prefix : List Looked) × (byte : ℕ) × (xs ++ ys ≡ prefix ++ Byte byte ∷ []))
 prompt_join xs ys (inl a) (inl b) = inl (ap (λ (l : List Looked). l ++ ys) a ∙ b)
-prompt_join xs ys (inr (front, byte, a)) (inl b) = inr (front, byte, ap (λ (l : List Looked). xs ++ l) b ∙ append-nil xs ∙ a)
-prompt_join xs ys a (inr (front, byte, b)) = inr (xs ++ front, byte, ap (λ (l : List Looked). xs ++ l) b ∙ sym (append_assoc xs front (Byte byte ∷ [])))
+prompt_join xs ys (inr (prefix, byte, a)) (inl b) = inr (prefix, byte, ap (λ (l : List Looked). xs ++ l) b ∙ append-nil xs ∙ a)
+prompt_join xs ys a (inr (prefix, byte, b)) = inr (xs ++ prefix, byte, ap (λ (l : List Looked). xs ++ l) b ∙ sym (append_assoc xs prefix (Byte byte ∷ [])))
 
 module _ (xs ys : List Looked) (fs gs : List Frame) (h : HearsJust xs fs) where
   pub just_join : HearsJust ys gs → HearsJust (xs ++ ys) (fs ++ gs)
@@ -134,7 +134,7 @@ module _ (xs ys : List Looked) (fs gs : List Frame) (h : HearsJust xs fs) where
   hears_join k = record { calm = calm_append xs ys h.calm k.calm; rest = k.rest; stream = both_heard xs ys fs gs (Within k.rest) h k.stream }
 
 pub ends_join : (xs ys : List Looked) (fs gs : List Frame) (last : Looked) → HearsJust xs fs → EndsAt ys gs last → EndsAt (xs ++ ys) (fs ++ gs) last
-ends_join xs ys fs gs last h (front, e, k) = (xs ++ front, ap (λ (l : List Looked). xs ++ l) e ∙ sym (append_assoc xs front (last ∷ [])), hears_join xs front fs gs h k)
+ends_join xs ys fs gs last h (prefix, e, k) = (xs ++ prefix, ap (λ (l : List Looked). xs ++ l) e ∙ sym (append_assoc xs prefix (last ∷ [])), hears_join xs prefix fs gs h k)
 
 pub bad_join : (xs ys : List Looked) (fs gs : List Frame) → HearsJust xs fs → IsBad ys gs → IsBad (xs ++ ys) (fs ++ gs)
 bad_join xs ys fs gs h (byte, at, ends, stream) = (byte, at, ends_join xs ys fs gs (Byte byte) h ends, both_heard xs ys fs gs (Stopped at) h stream)

@@ -1,5 +1,5 @@
 pub mod Appending
-pub mod Asking
+pub mod Awaited
 pub mod Bytes
 pub mod Comparing
 pub mod Hearing

@@ -6,7 +6,7 @@ use Rattle.peers.specs.declared.receive.ReceiveEnd.{ReceiveEnd}
 use Rattle.peers.specs.declared.receive.ReceiveEnd.TheVariants.{Ended, Looks, Write, Device, Ahead, LogFull}
 use Rattle.peers.specs.Outputs.{Counts}
 use Rattle.peers.specs.Receiving.{Turn, Passed, Took, Again, Place, IsTurn, AreTurns, place_after, frame_in, frames, lines, sendings, is_wanted, Reception, Receives}
-use Rattle.peers.specs.Laws.{IsCalmCall, AreFronts}
+use Rattle.peers.specs.Laws.{IsCalmCall, ArePrefixes}
 use Rattle.peers.proofs.Hearing.{hears_more, over_more, just_join}
 use Rattle.peers.proofs.Comparing.{Tail, Used, Ends, Bad, Last, Stop, Heard, all_of, IsStop, AreSame, FirstStops, SecondStops, compared}
 
@@ -25,11 +25,11 @@ snoc_same (a ∷ xs) (b ∷ ys) x y e =
 -- a list that goes on has a last element
 data Behind {A : Type 0} : List A → Type 0 where
   Nothing : Behind []
-  Something : (front : List A) (last : A) → Behind (front ++ last ∷ [])
+  Something : (prefix : List A) (last : A) → Behind (prefix ++ last ∷ [])
 
 behind_one : {A : Type 0} (x : A) (xs : List A) → Behind xs → Behind (x ∷ xs)
 behind_one x _ Nothing = Something [] x
-behind_one x _ (Something front last) = Something (x ∷ front) last
+behind_one x _ (Something prefix last) = Something (x ∷ prefix) last
 
 behind : {A : Type 0} (xs : List A) → Behind xs
 behind [] = Nothing
@@ -59,7 +59,7 @@ same_turns row size p (t ∷ a) (u ∷ b) x y e =
     let here = one_turn row size (place_after p b) t u (subst (λ (l : List Turn). IsTurn row size (place_after p l) t) past x.0) y.0 s.1 in
     ap (λ (l : List Turn). t ∷ l) past ∙ ap (λ (v : Turn). v ∷ b) here
 
--- a front of the frames was heard in a front of the turns
+-- a prefix of the frames was heard in a prefix of the turns
 pub record Earlier (row : SessionRow) (size : ℕ) (p : Place) (fs : List Frame) : Type 0 where
   pub turns : List Turn
   pub are : AreTurns row size p turns
@@ -70,18 +70,18 @@ nothing [] n = refl
 nothing (x ∷ xs) n = absurd (omega (arith, n))
 
 earlier_by : (row : SessionRow) (size : ℕ) (p : Place) (t : Turn) (turns : List Turn) (fs later : List Frame) → Behind later → AreTurns row size p (t ∷ turns) → frames (t ∷ turns) ≡ fs ++ later
-    → ((front : List Frame) → frames turns ≡ fs ++ front → Earlier row size p fs) → Earlier row size p fs
+    → ((prefix : List Frame) → frames turns ≡ fs ++ prefix → Earlier row size p fs) → Earlier row size p fs
 earlier_by row size p t turns fs _ Nothing are e before = record { turns = t ∷ turns; are = are; heard = e ∙ append-nil fs }
-earlier_by row size p t turns fs _ (Something front last) are e before =
-    let s = snoc_same (frames turns) (fs ++ front) (frame_in t) last (e ∙ sym (append_assoc fs front (last ∷ []))) in
-    before front s.0
+earlier_by row size p t turns fs _ (Something prefix last) are e before =
+    let s = snoc_same (frames turns) (fs ++ prefix) (frame_in t) last (e ∙ sym (append_assoc fs prefix (last ∷ []))) in
+    before prefix s.0
 
 earlier : (row : SessionRow) (size : ℕ) (p : Place) (turns : List Turn) (fs later : List Frame) → AreTurns row size p turns → frames turns ≡ fs ++ later → Earlier row size p fs
 earlier row size p [] fs later are e =
     let l = ap length e in
     let none : length fs ≡ 0 = omega (arith, l, length-append fs later) in
     record { turns = []; are = tt; heard = sym (nothing fs none) }
-earlier row size p (t ∷ turns) fs later are e = earlier_by row size p t turns fs later (behind later) are e (λ front e'. earlier row size p turns fs front are.1 e')
+earlier row size p (t ∷ turns) fs later are e = earlier_by row size p t turns fs later (behind later) are e (λ prefix e'. earlier row size p turns fs prefix are.1 e')
 
 -- ---- ends ----
 
@@ -196,9 +196,9 @@ module _ (row : SessionRow) (size most : ℕ) (start : Place) (x y : Reception) 
       let s = snoc_same (frames y.turns) (frames x.turns) g f (e ∙ append-nil (frames x.turns ++ f ∷ [])) in
       let same : x.turns ≡ y.turns = same_turns row size start x.turns y.turns are are' (sym s.0) in
       one_by row size most start x y end other (Last f) a b same says (subst (λ (h : Frame). Says row size (place_after start y.turns) (Last h) other) s.1 says')
-  last_both f g _ (Something front last) says says' e =
-      let s = snoc_same (frames y.turns) ((frames x.turns ++ f ∷ []) ++ front) g last (e ∙ sym (append_assoc (frames x.turns ++ f ∷ []) front (last ∷ []))) in
-      absurd (goes_no_further row size start x.turns y.turns f end front are are' says s.0)
+  last_both f g _ (Something prefix last) says says' e =
+      let s = snoc_same (frames y.turns) ((frames x.turns ++ f ∷ []) ++ prefix) g last (e ∙ sym (append_assoc (frames x.turns ++ f ∷ []) prefix (last ∷ []))) in
+      absurd (goes_no_further row size start x.turns y.turns f end prefix are are' says s.0)
 
   first_stops : (t u : Tail) (later : List Frame) → IsStop t → Says row size (place_after start x.turns) t end → Says row size (place_after start y.turns) u other
       → all_of (frames y.turns) u ≡ all_of (frames x.turns) t ++ later → AreOne x y end other
@@ -213,7 +213,7 @@ module _ (row : SessionRow) (size most : ℕ) (start : Place) (x y : Reception) 
   first_stops Bad u later stops says says' e = absurd stops
 
 pub one_reception : (row : SessionRow) (size most : ℕ) (start : Place) (x y : Reception) (n k : Counts) (end other : ReceiveEnd) → IsCalmCall n → IsCalmCall k
-    → Receives row size most start x n end → Receives row size most start y k other → AreFronts (x.heard ++ x.looks) (y.heard ++ y.looks) → AreOne x y end other
+    → Receives row size most start x n end → Receives row size most start y k other → ArePrefixes (x.heard ++ x.looks) (y.heard ++ y.looks) → AreOne x y end other
 one_reception row size most start x y n k end other calm calm' r r' (later, later', e) =
     let a = normal row size most start x n end calm r in
     let b = normal row size most start y k other calm' r' in

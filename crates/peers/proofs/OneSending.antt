@@ -12,13 +12,13 @@ use Rattle.script_reader.specs.Grammar.{IsHex}
 use Rattle.script_reader.specs.Parsing.{hex}
 use Rattle.script_reader.specs.Lines.{IsSome}
 use Rattle.script_reader.proofs.FieldLaws.{hex_again}
-use Rattle.script_reader.proofs.LineEnds.{one_front}
-use Rattle.peers.specs.declared.ask.Wanted.{Wanted}
-use Rattle.peers.specs.declared.ask.Wanted.TheVariants as wanted
+use Rattle.script_reader.proofs.LineEnds.{one_prefix}
+use Rattle.peers.specs.declared.asking.Wanted.{Wanted}
+use Rattle.peers.specs.declared.asking.Wanted.TheVariants as wanted
 use Rattle.peers.specs.declared.send.SendEnd.{SendEnd}
 use Rattle.peers.specs.declared.send.SendEnd.TheVariants.{Done, Read, Write, Script, Refused, Unfinished}
 use Rattle.peers.specs.Looks.{HearsJust}
-use Rattle.peers.specs.Laws.{IsCalmCall, AreFronts}
+use Rattle.peers.specs.Laws.{IsCalmCall, ArePrefixes}
 use Rattle.peers.specs.Outputs.{Counts}
 use Rattle.peers.specs.Payloads.{IsPayload, IsFaulty}
 use Rattle.peers.specs.Sending.{Turn, Skipped, Acked, Wait, Last as LastPart, Answers, AskEnds, EndsBy, IsTurn, AreTurns, IsPassed, ArePassed, is_wanted, is_refusal, is_welcome, is_ack, is_refuse, data_frame, line_of, sent_in, printed_in, lines, looks_of, sendings, printings, hello_frame, Sending, Ungreeted, Greeted, Sends, all_looks, all_sent, all_printed}
@@ -107,7 +107,7 @@ ask_normal session ask w number last n (Refused code of) calm (r, sent, printed)
   sent = sent;
   printed = printed;
 }
-ask_normal session ask w number last n (Unfinished of) calm (inl (none, front, rose), printed, is) = absurd (calm.link rose)
+ask_normal session ask w number last n (Unfinished of) calm (inl (none, prefix, rose), printed, is) = absurd (calm.link rose)
 ask_normal session ask w number last n (Unfinished of) calm (inr (u, sent), printed, is) = elim u.ends [
   | inl (inl bad) ↦ record { tail = Bad; passed = u.passed; heard = λ most xs fs h used. bad_join xs last.wait.looks fs last.wait.passed h bad; says = ap Unfinished is; sent = sent; printed = printed }
   | inl (inr (inl ended)) ↦ record { tail = Ends; passed = u.passed; heard = λ most xs fs h used. ends_join xs last.wait.looks fs last.wait.passed _ h ended; says = ap Unfinished is; sent = sent; printed = printed }
@@ -156,7 +156,7 @@ cancel pre fs gs t u (FirstEnds s l e) =
 cancel pre fs gs t u (SecondEnds s l e) =
     SecondEnds s l (append_cancel_left pre (all_of fs t) (all_of gs u ++ l) (sym (all_behind pre fs t) ∙ e ∙ ap (λ (x : List Frame). x ++ l) (all_behind pre gs u) ∙ append_assoc pre (all_of gs u) l))
 
--- both are fronts of one list of frames
+-- both are prefixes of one list of frames
 meet : (fs gs : List Frame) (t u : Tail) → Agree fs gs t u → (r : List Frame) × (s : List Frame) × (all_of fs t ++ r ≡ all_of gs u ++ s)
 meet fs gs t u (Same a b) = ([], [], ap (λ (l : List Frame). l ++ []) (ap (λ (l : List Frame). all_of l t) a ∙ ap (λ (v : Tail). all_of gs v) b))
 meet fs gs t u (FirstEnds st l e) = (l, [], sym e ∙ sym (append-nil (all_of gs u)))
@@ -282,7 +282,7 @@ same_turns session first (t ∷ a) (u ∷ b) ra rb fa fb x y n e f =
     (sym (append_assoc (frames_of a) (frames_in t) fa) ∙ f ∙ append_assoc (frames_of b) (frames_in u) fb) in
     let p = line_unended session first (length a) t x.0 in
     let q = line_unended session first (length b) u y.0 in
-    let l = one_front (line_of t) (line_of u) ra rb p.1.unended q.1.unended (sym (append_assoc (line_of t) (10 ∷ []) ra) ∙ past.rest ∙ append_assoc (line_of u) (10 ∷ []) rb) in
+    let l = one_prefix (line_of t) (line_of u) ra rb p.1.unended q.1.unended (sym (append_assoc (line_of t) (10 ∷ []) ra) ∙ past.rest ∙ append_assoc (line_of u) (10 ∷ []) rb) in
     let here = one_pair session first (length a) t u fa fb x.0 (subst (λ k. IsTurn session first k u) (sym m) y.0) l.0 past.later in
     record {
       rest = l.1;
@@ -420,7 +420,7 @@ whys_one session first first' n m script script' last last' end other (IsAsked l
 whys_one session first first' n m script script' last last' end other (IsAsked lo few p l is after comes h) (IsAsked lo' few' p' l' is' after' comes' h') k s g =
     let at = begins script after l comes in
     let at' = begins script' after' l' comes' in
-    let same = one_front l l' at.0 at'.0 is.unended is'.unended (sym at.1 ∙ s ∙ at'.1) in
+    let same = one_prefix l l' at.0 at'.0 is.unended is'.unended (sym at.1 ∙ s ∙ at'.1) in
     let back_to : m ≡ n = sym k in (
       asks_one session n (wanted.Ack n) last.wait.passed last'.wait.passed h.tail h'.tail end other h.passed (subst (λ i. ArePassed session (wanted.Ack i) last'.wait.passed) back_to h'.passed) h.says
           (subst (λ i. AskSays session i h'.tail other) back_to h'.says) g,
@@ -581,7 +581,7 @@ fits : (most left n : ℕ) → most ≡ left + n → n ≤ most
 fits most left n e = omega (arith, e)
 
 pub one_sending : (row : SessionRow) (most : ℕ) (script : List ℕ) (left left' : Option (List ℕ)) (x y : Sending) (n k : Counts) (end other : SendEnd) → IsCalmCall n → IsCalmCall k
-    → Sends row most (Some script) left x n end → Sends row most (Some script) left' y k other → AreFronts (all_looks x) (all_looks y) → AreOne row x y end other
+    → Sends row most (Some script) left x n end → Sends row most (Some script) left' y k other → ArePrefixes (all_looks x) (all_looks y) → AreOne row x y end other
 one_sending row most script left left' (Ungreeted last) (Ungreeted last') n k end other calm calm' (ends, used, none) (ends', used', none') (r, s, e) =
     let a = ask_normal row.id (hello_frame row) wanted.Welcome 0 last n end calm ends in
     let b = ask_normal row.id (hello_frame row) wanted.Welcome 0 last' k other calm' ends' in

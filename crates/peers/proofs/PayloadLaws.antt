@@ -8,7 +8,7 @@ use Rattle.script_reader.specs.Parsing.{hex}
 use Rattle.script_reader.specs.Grammar.{IsHex}
 use Rattle.script_reader.specs.Lines.{is_end, IsUnended}
 use Rattle.script_reader.proofs.FieldLaws.{hex_again}
-use Rattle.script_reader.proofs.LineEnds.{one_front}
+use Rattle.script_reader.proofs.LineEnds.{one_prefix}
 use Rattle.peers.specs.Payloads.{IsFaulty}
 
 ten_not : (b : ℕ) → is_end b ≡ false → b ≡ 10 → ⊥
@@ -38,7 +38,7 @@ pub not_hex : (line rest : List ℕ) → IsUnended line → hex line ≡ None �
 not_hex line rest unended none = record {
   some = λ e. let l = ap length e in absurd (omega (arith, l, length-append line (10 ∷ rest)));
   bad = λ payload other more is e.
-      let same = one_front line other rest more unended is.unended e in
+      let same = one_prefix line other rest more unended is.unended e in
       let again : hex line ≡ Some payload = hex_again line payload (subst (λ (l : List ℕ). IsHex payload l) (sym same.0) is.hex) in
       cc;
 }

@@ -10,15 +10,15 @@ use Rattle.pump_frame.specs.Spellings.{spelling}
 use Rattle.pump_link.specs.Tells.{Draws, Grows}
 use Rattle.pump_link.specs.declared.link.Looked.{Looked}
 use Rattle.pump_link.proofs.Grown.{Draws-then, Grows-then}
-use Rattle.peers.specs.declared.ask.Wanted.{Wanted}
-use Rattle.peers.specs.declared.ask.Wanted.TheVariants as wanted
+use Rattle.peers.specs.declared.asking.Wanted.{Wanted}
+use Rattle.peers.specs.declared.asking.Wanted.TheVariants as wanted
 use Rattle.peers.specs.declared.send.SendEnd.{SendEnd}
 use Rattle.peers.specs.declared.send.SendEnd.TheVariants.{Done, Read, Write, Script, Refused, Unfinished}
 use Rattle.peers.specs.Outputs.{Counts}
 use Rattle.peers.specs.Payloads.{IsPayload, IsFaulty, TakesAtMost}
 use Rattle.peers.specs.Replies.{Sends as SendsMessage}
 use Rattle.peers.specs.Sending.{Turn, Skipped, Acked, Wait, Last, Answers, IsUnanswered, IsUnfinished, AskEnds, MessageEnds, LineEnds, EndsBy, AreTurns, data_frame, ack_line, lines, looks_of, sendings, printings, hello_frame, Sending, Ungreeted, Greeted, Sends, all_looks, all_sent, all_printed}
-use Rattle.peers.proofs.Asking.{rose_earlier}
+use Rattle.peers.proofs.Awaited.{rose_earlier}
 use Rattle.peers.proofs.Hearing.{over_earlier}
 
 -- ---- counts that rose since a later moment ----
@@ -36,11 +36,11 @@ unanswered_earlier session w wait left a b now le u = record {
 }
 
 pub unfinished_earlier : (session : ℕ) (ask : Frame) (w : Wanted) (wait : Wait) (left : ℕ) (sent : List ℕ) (a b now : ℕ) → a ≤ b → IsUnfinished session ask w wait left sent b now → IsUnfinished session ask w wait left sent a now
-unfinished_earlier session ask w wait left sent a b now le (inl (none, front, rose)) = inl (none, front, rose_earlier a b now le rose)
+unfinished_earlier session ask w wait left sent a b now le (inl (none, prefix, rose)) = inl (none, prefix, rose_earlier a b now le rose)
 unfinished_earlier session ask w wait left sent a b now le (inr (u, whole)) = inr (unanswered_earlier session w wait left a b now le u, whole)
 
 pub message_earlier : (f : Frame) (last : Last) (a b now_link c d now_out x y z w : ℕ) (end : SendEnd) → a ≤ b → c ≤ d → MessageEnds f last (counts b now_link d now_out x y) end → MessageEnds f last (counts a now_link c now_out z w) end
-message_earlier f last a b now_link c d now_out x y z w Write low out_low (ack, answer, sent, front, rose) = (ack, answer, sent, front, rose_earlier c d now_out out_low rose)
+message_earlier f last a b now_link c d now_out x y z w Write low out_low (ack, answer, sent, prefix, rose) = (ack, answer, sent, prefix, rose_earlier c d now_out out_low rose)
 message_earlier f last a b now_link c d now_out x y z w (Refused code of) low out_low ends = ends
 message_earlier f last a b now_link c d now_out x y z w (Unfinished of) low out_low (u, none, is) = (unfinished_earlier f.session f (wanted.Ack f.number) last.wait last.left last.sent a b now_link low u, none, is)
 message_earlier f last a b now_link c d now_out x y z w Done low out_low ends = absurd ends

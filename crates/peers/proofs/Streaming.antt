@@ -12,7 +12,7 @@ use Rattle.pump_link.proofs.Grown.{Draws-nil, Draws-then, Grows-nil, Grows-then}
 use Rattle.peers.specs.declared.append.AppendEnd.{AppendEnd}
 use Rattle.peers.specs.declared.append.AppendEnd.TheVariants.{Done, Read, Write, Script, Refused, Unfinished, Elsewhere}
 use Rattle.peers.specs.declared.append.Appender.{Appender}
-use Rattle.peers.specs.declared.ask.Wanted.TheVariants as wanted
+use Rattle.peers.specs.declared.asking.Wanted.TheVariants as wanted
 use Rattle.peers.specs.Appender.{IsReady, flight, flight_of, acknowledged, Keeps, Holds, IsNone, Behind, SendsLines}
 use Rattle.peers.specs.Appending.{Line, AreLines, payloads, texts, Flight, flying, acks, Prints, Turn, AreTurns, messages, looks_of, sendings, Ask, AskEnds, IsFlown, LinesEnd}
 use Rattle.peers.specs.Outputs.{PrintsPart}
@@ -218,11 +218,11 @@ module _ (old h : Appender) (left : ℕ) (g g1 g2 : List Looked → Type 0) (s s
 
     -- .. and that could not be printed
     pub unprinted : (w2 : Option (List ℕ)) (before last : ℕ) → PrintsPart w1 w2 false (ack_line h.frame.number) → TakesAtMost 2049 after after → Told old (acknowledged (record h { left = left })) g g2 s s2 all after w w2 before last (Some Write)
-    unprinted w2 before last (front, is, whole, appends) none = (
+    unprinted w2 before last (prefix, is, whole, appends) none = (
       turns,
       was.lines,
       idle left,
-      acks old.frame.number (messages was.turns) ++ front,
+      acks old.frame.number (messages was.turns) ++ prefix,
       record {
         are = answers;
         read = was.read;
@@ -233,13 +233,13 @@ module _ (old h : Appender) (left : ℕ) (g g1 g2 : List Looked → Type 0) (s s
         left = refl;
         reads = was.reads;
         behind = none;
-        prints = (front, subst (λ n. (rest : List ℕ) × (ack_line n ≡ front ++ rest)) number_is is, refl);
+        prints = (prefix, subst (λ n. (rest : List ℕ) × (ack_line n ≡ prefix ++ rest)) number_is is, refl);
         count = omega (arith, was.count);
         number = omega (arith, was.number);
       },
       subst (Draws g g2) (sym (append-nil (looks_of turns))) (Draws-then g g1 g2 (looks_of was.turns) wait.looks was.gave gave),
       subst (Grows s s2) (sym (append-nil (sendings old.frame.session old.frame.number turns))) all_sent,
-      Appends-trans w w1 w2 (acks old.frame.number (messages was.turns)) front was.did_print appends,
+      Appends-trans w w1 w2 (acks old.frame.number (messages was.turns)) prefix was.did_print appends,
     )
 
 pub lawful_data : (f : Frame) → f.kind ≡ Data → f.session < 2 ^ 32 → f.number < 2 ^ 48 → length f.payload ≤ 1024 → IsLawful f

@@ -16,27 +16,27 @@ use Rattle.high_receiver.specs.declared.values.TakeFault.TheVariants as fault
 use Rattle.high_receiver.specs.Steps.{MayTake, TakesMessage}
 use Rattle.high_receiver.specs.Receiving.{IsRecvReady, Stores, answer_at_once, recv_disk, recv_count, recv_end, recv_row, recv_size, recv_is_open}
 use Rattle.peers.specs.Outputs.{plain_frame}
-use Rattle.peers.specs.Receiving.{Turn, Took, Again, IsNext, place_of, frame_in, answer_in, line_in, taken_line, is_wanted, StandsForFront}
-use Rattle.peers.specs.Takes.{LeavesFront, GrowsBy, GrowsPart, MakesTurn}
+use Rattle.peers.specs.Receiving.{Turn, Took, Again, IsNext, place_of, frame_in, answer_in, line_in, taken_line, is_wanted, StandsForPrefix}
+use Rattle.peers.specs.Takes.{LeavesPrefix, GrowsBy, GrowsPart, MakesTurn}
 
 -- ---- disks ----
 
 none_more : (row : SessionRow) (before : List (List ℕ)) (disk : List ℕ) → RecvStands row before disk → RecvStands row (before ++ []) disk
 none_more row before disk is = subst (λ (l : List (List ℕ)). RecvStands row l disk) (sym (append-nil before)) is
 
-one_more : (row : SessionRow) (before : List (List ℕ)) (message disk : List ℕ) → RecvStands row before disk ⊎ RecvStands row (before ++ message ∷ []) disk → StandsForFront row before (message ∷ []) disk
+one_more : (row : SessionRow) (before : List (List ℕ)) (message disk : List ℕ) → RecvStands row before disk ⊎ RecvStands row (before ++ message ∷ []) disk → StandsForPrefix row before (message ∷ []) disk
 one_more row before message disk (inl is) = ([], message ∷ [], refl, none_more row before disk is)
 one_more row before message disk (inr is) = (message ∷ [], [], refl, is)
 
-longer : (row : SessionRow) (before xs ys : List (List ℕ)) (disk : List ℕ) → StandsForFront row before xs disk → StandsForFront row before (xs ++ ys) disk
-longer row before xs ys disk (front, rest, e, is) = (front, rest ++ ys, ap (λ (l : List (List ℕ)). l ++ ys) e ∙ append_assoc front rest ys, is)
+longer : (row : SessionRow) (before xs ys : List (List ℕ)) (disk : List ℕ) → StandsForPrefix row before xs disk → StandsForPrefix row before (xs ++ ys) disk
+longer row before xs ys disk (prefix, rest, e, is) = (prefix, rest ++ ys, ap (λ (l : List (List ℕ)). l ++ ys) e ∙ append_assoc prefix rest ys, is)
 
-further : (row : SessionRow) (before xs ys : List (List ℕ)) (disk : List ℕ) → StandsForFront row (before ++ xs) ys disk → StandsForFront row before (xs ++ ys) disk
-further row before xs ys disk (front, rest, e, is) = (
-  xs ++ front,
+further : (row : SessionRow) (before xs ys : List (List ℕ)) (disk : List ℕ) → StandsForPrefix row (before ++ xs) ys disk → StandsForPrefix row before (xs ++ ys) disk
+further row before xs ys disk (prefix, rest, e, is) = (
+  xs ++ prefix,
   rest,
-  ap (λ (l : List (List ℕ)). xs ++ l) e ∙ sym (append_assoc xs front rest),
-  subst (λ (l : List (List ℕ)). RecvStands row l disk) (append_assoc before xs front) is,
+  ap (λ (l : List (List ℕ)). xs ++ l) e ∙ sym (append_assoc xs prefix rest),
+  subst (λ (l : List (List ℕ)). RecvStands row l disk) (append_assoc before xs prefix) is,
 )
 
 module _ {D : Type 0} (m : Meaning D) (row : SessionRow) where
@@ -57,9 +57,9 @@ module _ {D : Type 0} (m : Meaning D) (row : SessionRow) where
         elim (b.leaves (before ++ xs) (a.stands (m.images_tell told) before is) told t c (omega (arith, le, a.later)) left) [
           | inl was ↦ elim (a.leaves before is told t c le was) [
             | inl earlier ↦ inl earlier
-            | inr front ↦ inr (longer row before xs ys c front)
+            | inr prefix ↦ inr (longer row before xs ys c prefix)
           ]
-          | inr front ↦ inr (further row before xs ys c front)
+          | inr prefix ↦ inr (further row before xs ys c prefix)
         ];
   }
 
@@ -70,17 +70,17 @@ module _ {D : Type 0} (m : Meaning D) (row : SessionRow) where
         elim (b.leaves (before ++ xs) (a.stands (m.images_tell told) before is) told t c (omega (arith, le, a.later)) left) [
           | inl was ↦ elim (a.leaves before is told t c le was) [
             | inl earlier ↦ inl earlier
-            | inr front ↦ inr (longer row before xs ys c front)
+            | inr prefix ↦ inr (longer row before xs ys c prefix)
           ]
-          | inr front ↦ inr (further row before xs ys c front)
+          | inr prefix ↦ inr (further row before xs ys c prefix)
         ];
   }
 
   pub whole_part : (old new : D) (xs : List (List ℕ)) → GrowsBy m row old new xs → GrowsPart m row old new xs
   whole_part old new xs a = record { reads = λ told before is. (xs, [], sym (append-nil xs), a.stands told before is); leaves = a.leaves }
 
-  -- a crash in the call leaves a front
-  pub in_call : (old new : D) (xs : List (List ℕ)) → Settled m old → GrowsPart m row old new xs → (before : List (List ℕ)) → RecvStands row before (m.reading old) → Leaves m old new (StandsForFront row before xs)
+  -- a crash in the call leaves a prefix
+  pub in_call : (old new : D) (xs : List (List ℕ)) → Settled m old → GrowsPart m row old new xs → (before : List (List ℕ)) → RecvStands row before (m.reading old) → Leaves m old new (StandsForPrefix row before xs)
   in_call old new xs settled a before is told c left =
       elim (a.leaves before is told (m.moment old) c (omega arith) left) [
         | inl was ↦ (
@@ -89,10 +89,10 @@ module _ {D : Type 0} (m : Meaning D) (row : SessionRow) where
           refl,
           none_more row before c (subst (λ (l : List ℕ). RecvStands row before l) (sym (settled told c (m.only_now told old c was))) is),
         )
-        | inr front ↦ front
+        | inr prefix ↦ prefix
       ]
 
-  leaves_one : (message : List ℕ) (old new : D) → Settled m old → Moves m (MayTake row message) old new → LeavesFront m row old new (message ∷ [])
+  leaves_one : (message : List ℕ) (old new : D) → Settled m old → Moves m (MayTake row message) old new → LeavesPrefix m row old new (message ∷ [])
   leaves_one message old new settled moved before is told t c le left =
       elim (moved.each told t c le left) [
         | inl was ↦ inl was

@@ -219,13 +219,13 @@ module _ {D : Type 0} (m : Meaning D) (row : SessionRow) (most left left' : ℕ)
   pub frame_ends : (f : Frame) (x : Step) (a b now_link c d now_out : ℕ) (end : ReceiveEnd) → IsRecvReady m old → HearsJust looks (f ∷ []) → a ≤ b → c ≤ d
       → TakesFrame m row f now new x (counts b now_link d now_out now) (Some end) → Grows s1 s2 x.sent → Appends w1 w2 x.printed
       → Received m row most g g2 s s2 w w2 old new (counts a now_link c now_out old) end
-  frame_ends f x a b now_link c d now_out Ended ready hears low out_low (t, is, made, front, printed, rose) sends prints =
+  frame_ends f x a b now_link c d now_out Ended ready hears low out_low (t, is, made, prefix, printed, rose) sends prints =
       turn_ends f t (sendings row.id (recv_count old) was.turns ++ x.sent) (lines row.id (t ∷ was.turns)) (counts a now_link c now_out old) Ended ready hears is made refl refl
-      (inr (record { none = refl; looks = refl }, (x.sent, front, refl), refl, rose_earlier a b now_link low rose))
+      (inr (record { none = refl; looks = refl }, (x.sent, prefix, refl), refl, rose_earlier a b now_link low rose))
       (Grows-then s s1 s2 (sendings row.id (recv_count old) was.turns) x.sent was.did_send sends) (more_printed t x.printed printed prints)
-  frame_ends f x a b now_link c d now_out Write ready hears low out_low (t, is, made, none, front, rose) sends prints =
+  frame_ends f x a b now_link c d now_out Write ready hears low out_low (t, is, made, none, prefix, rose) sends prints =
       turn_ends f t (sendings row.id (recv_count old) was.turns) (lines row.id was.turns ++ x.printed) (counts a now_link c now_out old) Write ready hears is made refl refl
-      (record { none = refl; looks = refl }, (x.printed, front, refl, refl), rose_earlier c d now_out out_low rose)
+      (record { none = refl; looks = refl }, (x.printed, prefix, refl, refl), rose_earlier c d now_out out_low rose)
       (none_sent x.sent none sends) (Appends-trans w w1 w2 (lines row.id was.turns) x.printed was.did_print prints)
   frame_ends f x a b now_link c d now_out (Device faults) ready hears low out_low (wanted, next, closed, same_row, same_size, rose, is, grows, (no_sent, no_printed)) sends prints =
       device_ends f (counts a now_link c now_out old) faults ready hears wanted next closed same_row same_size
@@ -248,10 +248,10 @@ module _ {D : Type 0} (m : Meaning D) (row : SessionRow) (most left left' : ℕ)
 -- ATTACH was not sent whole
 pub attach_fails : {D : Type 0} (m : Meaning D) (row : SessionRow) (most : ℕ) (g g1 : List Looked → Type 0) (s s1 : List ℕ → Type 0) (w : Option (List ℕ)) (old : Receiver D) (b : Bool) (n : Counts) → IsRecvReady m old
     → Draws g g1 [] → SendsPart s s1 b (spelling (plain_frame Attach row.id (recv_count old))) → Rose n.link n.now_link → Received m row most g g1 s s1 w w old old n Ended
-attach_fails m row most g g1 s s1 w old b n ready gave (front, is_front, whole, sends) rose =
-    let x : Reception = record { turns = []; heard = []; looks = []; refused = None; left = most; sent = front; printed = [] } in (
+attach_fails m row most g g1 s s1 w old b n ready gave (prefix, is_prefix, whole, sends) rose =
+    let x : Reception = record { turns = []; heard = []; looks = []; refused = None; left = most; sent = prefix; printed = [] } in (
       x,
-      record { turns = tt; heard = hears_none; used = omega arith; ends = inr (record { none = refl; looks = refl }, is_front, refl, rose) },
+      record { turns = tt; heard = hears_none; used = omega arith; ends = inr (record { none = refl; looks = refl }, is_prefix, refl, rose) },
       gave,
       sends,
       Appends-nil w,

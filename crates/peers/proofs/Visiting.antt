@@ -11,7 +11,7 @@ use Rattle.pump_link.proofs.Grown.{Draws-then, Grows-then}
 use Rattle.peers.specs.declared.append.AppendEnd.{AppendEnd}
 use Rattle.peers.specs.declared.append.AppendEnd.TheVariants.{Done, Read, Write, Script, Refused, Unfinished, Elsewhere}
 use Rattle.peers.specs.declared.append.Appender.{Appender}
-use Rattle.peers.specs.declared.ask.Wanted.TheVariants as wanted
+use Rattle.peers.specs.declared.asking.Wanted.TheVariants as wanted
 use Rattle.peers.specs.Appender.{IsReady, flight, flight_of, next_number, TakesWelcome, coming, Behind, Visits}
 use Rattle.peers.specs.Appending.{payloads, texts, Flight, flying, acks, Prints, messages, looks_of, sendings, Ask, AskEnds, LinesEnd, IsCounted, IsElsewhere, AreTurns, Visit, Ungreeted, Greeted, looks_in, sent_in}
 use Rattle.peers.specs.Payloads.{TakesAtMost}

@@ -39,10 +39,10 @@ module _ (old new : Appender) (number : ℕ) (w w1 : Option (List ℕ)) (held : 
   )
 
   pub unwritten : PrintsPart w w1 false (ack_line old.frame.number) → (messages : List (List ℕ)) × (printed : List ℕ) × TakesWelcome old number new messages (Some Write) × Prints (Some Write) (next_number (flight_of old) number) messages printed × Appends w w1 printed
-  unwritten (front, rest, whole, appends) = (
+  unwritten (prefix, rest, whole, appends) = (
     old.frame.payload ∷ [],
-    front,
+    prefix,
     subst (λ (a : Appender). TakesWelcome old number a (old.frame.payload ∷ []) (Some Write)) (sym is) (counts_it old.is_held old.frame number held one_more, moves old held, refl, sym one_more),
-    (front, (rest.0, ap ack_line (number_is old number held) ∙ rest.1), refl),
+    (prefix, (rest.0, ap ack_line (number_is old number held) ∙ rest.1), refl),
     appends,
   )

@@ -1,5 +1,6 @@
 -- What an appender does in one step, and on one connection. Only clauses of private functions name these.
-use Rattle.std.specs.Prelude.{◌≡◌, ◌⊎◌, ℕ, ◌+◌, ◌^◌, ◌<◌, ◌≤◌, Bool, true, false, List, [], ◌++◌, length, Option, Some, None, IfSome}
+use Rattle.std.specs.Prelude.{◌≡◌, ◌⊎◌, ℕ, ◌+◌, ◌^◌, ◌<◌, ◌≤◌, Bool, true, false, List, [], ◌++◌, length, Option, Some}
+use Rattle.std.specs.Prelude.{None, IfSome}
 use Rattle.std.specs.Io.KnownBytes.{prepend_known, Consumes, IsAtEnd}
 use Rattle.pump_frame.specs.declared.frame.Frame.{Frame}
 use Rattle.pump_frame.specs.declared.frame.Kind.TheVariants.{Data}
@@ -9,7 +10,10 @@ use Rattle.peers.specs.declared.append.AppendEnd.{AppendEnd}
 use Rattle.peers.specs.declared.append.AppendEnd.TheVariants.{Done, Read, Write, Script, Elsewhere}
 use Rattle.peers.specs.declared.append.Appender.{Appender}
 use Rattle.peers.specs.Payloads.{IsFaulty, TakesAtMost}
-use Rattle.peers.specs.Appending.{Line, AreLines, payloads, texts, Flight, flying, Prints, Turn, AreTurns, messages, looks_of, Ask, LinesEnd, IsCounted, IsElsewhere, AreInOrder, Visit, Ungreeted, Greeted, IsVisit, flight_after, acknowledged_in, lines_in, left_after, looks_in, told_in}
+use Rattle.peers.specs.Appending.{Line, AreLines, payloads, texts, Flight, flying, Prints, Turn, AreTurns, messages}
+use Rattle.peers.specs.Appending.{looks_of, Ask, LinesEnd, IsCounted, IsElsewhere, AreInOrder, Visit, Ungreeted}
+use Rattle.peers.specs.Appending.{Greeted, IsVisit, flight_after, acknowledged_in, lines_in, left_after, looks_in}
+use Rattle.peers.specs.Appending.{told_in}
 
 abbrev pub flight : Bool → Frame → Option Flight
 flight true f = Some (record { number = f.number; payload = f.payload })
@@ -30,7 +34,11 @@ pub record IsReady (a : Appender) : Type 0 where
 
 -- the message that is under way was acknowledged
 abbrev pub acknowledged : Appender → Appender
-acknowledged a = record a { frame = record a.frame { number = a.frame.number + 1 }; is_held = false; lines = a.lines + 1 }
+acknowledged a = record a {
+  frame = record a.frame { number = a.frame.number + 1 };
+  is_held = false;
+  lines = a.lines + 1;
+}
 
 -- the number of the message that is to be acknowledged next: that of the one under way, or the one that WELCOME told
 abbrev pub next_number : Option Flight → ℕ → ℕ
@@ -49,9 +57,12 @@ pub record Moves (old new : Appender) (done : List (List ℕ)) : Type 0 where
 
 -- what becomes of an appender by a WELCOME
 abbrev pub TakesWelcome : Appender → ℕ → Appender → List (List ℕ) → Option AppendEnd → Type 0
-TakesWelcome old number new counted None = IsCounted (flight_of old) number counted × Moves old new counted × (new.frame.number ≡ number) × (new.is_held ≡ true → old.frame.number ≡ number)
-TakesWelcome old number new counted (Some Write) = IsCounted (flight_of old) number counted × Moves old new counted × (new.is_held ≡ false) × (new.frame.number ≡ number)
-TakesWelcome old number new counted (Some (Elsewhere of)) = IsElsewhere (flight_of old) number × (of ≡ number) × (counted ≡ []) × (new ≡ old)
+TakesWelcome old number new counted None = IsCounted (flight_of old) number counted × Moves old new counted
+    × (new.frame.number ≡ number) × (new.is_held ≡ true → old.frame.number ≡ number)
+TakesWelcome old number new counted (Some Write) = IsCounted (flight_of old) number counted × Moves old new counted
+    × (new.is_held ≡ false) × (new.frame.number ≡ number)
+TakesWelcome old number new counted (Some (Elsewhere of)) = IsElsewhere (flight_of old) number × (of ≡ number)
+    × (counted ≡ []) × (new ≡ old)
 TakesWelcome old number new counted (Some _) = ⊥
 
 -- no message is under way, and none was
@@ -62,12 +73,15 @@ IsNone old new lines = (old.is_held ≡ false) × (new.is_held ≡ false) × (li
 abbrev pub coming : Appender → Option (List ℕ) → Option (List ℕ)
 coming a left = prepend_known a.script_lines left
 
--- a message is under way, for which these lines were read; or none is, and the script brought none, where `rest` was to come of it
+-- a message is under way, for which these lines were read; or none is, and the script brought none, where `rest` was
+-- to come of it
 abbrev pub Holds : Appender → Appender → List Line → Option (List ℕ) → Option (List ℕ) → Option AppendEnd → Type 0
-Holds old new lines rest after None = AreLines lines × (payloads lines ++ flying (flight_of old) ≡ flying (flight_of new)) × (new.is_held ≡ true) × (after ≡ rest)
+Holds old new lines rest after None = AreLines lines
+    × (payloads lines ++ flying (flight_of old) ≡ flying (flight_of new)) × (new.is_held ≡ true) × (after ≡ rest)
 Holds old new lines rest after (Some Done) = IsNone old new lines × IsAtEnd rest
 Holds old new lines rest after (Some Read) = IsNone old new lines
-Holds old new lines rest after (Some Script) = IsNone old new lines × (IfSome rest IsFaulty ⊎ ((2 ^ 48 ≤ new.frame.number) × IfSome rest IsSome))
+Holds old new lines rest after (Some Script) = IsNone old new lines
+    × (IfSome rest IsFaulty ⊎ ((2 ^ 48 ≤ new.frame.number) × IfSome rest IsSome))
 Holds old new lines rest after (Some _) = ⊥
 
 -- a line may be read, and the rest stays the same
@@ -83,7 +97,8 @@ Behind None rest after = after ≡ rest
 Behind (Some end) rest after = TakesAtMost 2049 rest after
 
 -- what was done behind a WELCOME: `all` was to come of the script, and then `after`
-pub record SendsLines (old new : Appender) (turns : List Turn) (lines : List Line) (a : Ask) (all after : Option (List ℕ)) (before now : ℕ) (end : Option AppendEnd) (printed : List ℕ) : Type 0 where
+pub record SendsLines (old new : Appender) (turns : List Turn) (lines : List Line) (a : Ask)
+    (all after : Option (List ℕ)) (before now : ℕ) (end : Option AppendEnd) (printed : List ℕ) : Type 0 where
   pub are : AreTurns old.frame.session old.frame.number turns
   pub read : AreLines lines
   pub order : AreInOrder (flight_of old) lines (messages turns) (flight_of new)
@@ -100,10 +115,12 @@ pub record SendsLines (old new : Appender) (turns : List Turn) (lines : List Lin
 -- the number of the next message, where it was `number` before the connection
 abbrev pub number_after : Option Flight → ℕ → Visit → ℕ
 number_after before number (Ungreeted a) = number
-number_after before number (Greeted wait welcome counted turns lines now a) = next_number before welcome.number + length (messages turns ++ counted)
+number_after before number (Greeted wait welcome counted turns lines now a) = next_number before welcome.number + length
+    (messages turns ++ counted)
 
 -- .. on a connection
-pub record Visits (row : SessionRow) (old new : Appender) (visit : Visit) (all after : Option (List ℕ)) (before now : ℕ) (end : Option AppendEnd) (printed : List ℕ) : Type 0 where
+pub record Visits (row : SessionRow) (old new : Appender) (visit : Visit) (all after : Option (List ℕ)) (before now : ℕ)
+    (end : Option AppendEnd) (printed : List ℕ) : Type 0 where
   pub rest : Option (List ℕ)
   pub is : IsVisit row (flight_of old) visit rest before now end
   pub flight_is : flight_of new ≡ flight_after (flight_of old) visit

@@ -1,5 +1,6 @@
 -- What Low's sender of a stream does, over all its connections. Lists have the newest first.
-use Rattle.std.specs.Prelude.{◌≡◌, ◌≢◌, ◌⊎◌, ℕ, ◌+◌, ◌^◌, ◌<◌, ◌≤◌, List, [], ◌∷◌, ◌++◌, length, codes, decimal, Option, Some, None, IfSome}
+use Rattle.std.specs.Prelude.{◌≡◌, ◌≢◌, ◌⊎◌, ℕ, ◌+◌, ◌^◌, ◌<◌, ◌≤◌, List, [], ◌∷◌, ◌++◌, length, codes, decimal, Option}
+use Rattle.std.specs.Prelude.{Some, None, IfSome}
 use Rattle.std.specs.List.{AllByRecursion}
 use Rattle.std.specs.Io.KnownBytes.{Consumes, IsAtEnd}
 use Rattle.pump_frame.specs.declared.frame.Frame.{Frame}
@@ -10,11 +11,11 @@ use Rattle.pump_link.specs.Ports.{PortsStep, Connected, NoConnection, BackToPort
 use Rattle.pump_link.specs.Tells.{Draws, Grows}
 use Rattle.script_reader.specs.Lines.{IsSome}
 use Rattle.script_reader.specs.Transcript.{line_with_end}
-use Rattle.peers.specs.declared.ask.Wanted.{Wanted}
-use Rattle.peers.specs.declared.ask.Wanted.TheVariants as wanted
+use Rattle.peers.specs.declared.asking.Wanted.{Wanted}
+use Rattle.peers.specs.declared.asking.Wanted.TheVariants as wanted
 use Rattle.peers.specs.declared.append.AppendEnd.{AppendEnd}
 use Rattle.peers.specs.declared.append.AppendEnd.TheVariants.{Done, Read, Write, Script, Refused, Unfinished, Elsewhere}
-use Rattle.peers.specs.Outputs.{IsFront}
+use Rattle.peers.specs.Outputs.{IsPrefix}
 use Rattle.peers.specs.Payloads.{IsPayload, IsFaulty, TakesAtMost}
 use Rattle.peers.specs.Sending.{Wait, Answers, IsRefused, IsUnfinished, ack_line, data_frame, hello_frame}
 
@@ -51,14 +52,16 @@ abbrev pub acks : ℕ → List (List ℕ) → List ℕ
 acks first [] = []
 acks first (message ∷ past) = acks first past ++ ack_line (first + length past)
 
--- .. of which only a front of the last was printed
+-- .. of which only a prefix of the last was printed
 abbrev pub IsCut : ℕ → List (List ℕ) → List ℕ → Type 0
 IsCut first [] printed = ⊥
-IsCut first (message ∷ past) printed = (front : List ℕ) × IsFront front (ack_line (first + length past)) × (printed ≡ acks first past ++ front)
+IsCut first (message ∷ past) printed = (prefix : List ℕ) × IsPrefix prefix (ack_line (first + length past))
+    × (printed ≡ acks first past ++ prefix)
 
 -- the line that tells how many lines were acknowledged, and the number of the next message
 abbrev pub appended_line : ℕ → ℕ → ℕ → List ℕ
-appended_line session lines next = line_with_end (codes "appended" ∷ decimal session ∷ decimal lines ∷ decimal next ∷ [])
+appended_line session lines next = line_with_end (codes "appended" ∷ decimal session ∷ decimal lines ∷ decimal
+    next ∷ [])
 
 abbrev pub Prints : Option AppendEnd → ℕ → List (List ℕ) → List ℕ → Type 0
 Prints (Some Write) first messages printed = IsCut first messages printed
@@ -75,7 +78,8 @@ pub record Turn : Type 0 where
 -- the messages have the numbers from this one on, and each was acknowledged before the next was sent
 abbrev pub AreTurns : ℕ → ℕ → List Turn → Type 0
 AreTurns session first [] = Unit {0}
-AreTurns session first (t ∷ past) = Answers session (wanted.Ack (first + length past)) t.wait t.ack × AreTurns session first past
+AreTurns session first (t ∷ past) = Answers session (wanted.Ack (first + length past)) t.wait t.ack
+    × AreTurns session first past
 
 abbrev pub messages : List Turn → List (List ℕ)
 messages [] = []
@@ -87,9 +91,11 @@ looks_of (t ∷ past) = looks_of past ++ t.wait.looks
 
 abbrev pub sendings : ℕ → ℕ → List Turn → List ℕ
 sendings session first [] = []
-sendings session first (t ∷ past) = sendings session first past ++ spelling (data_frame session (first + length past) t.payload)
+sendings session first (t ∷ past) = sendings session first past ++ spelling (data_frame session (first + length past)
+    t.payload)
 
--- what was asked last on a connection: the looks for an answer, how many looks were left, and what was sent of the frame
+-- what was asked last on a connection: the looks for an answer, how many looks were left, and what was sent of the
+-- frame
 pub record Ask : Type 0 where
   pub wait : Wait
   pub left : ℕ
@@ -103,11 +109,13 @@ pub record IsIdle (a : Ask) : Type 0 where
 -- no answer came, and the connection is broken or no look is left; or a refusal came, which ends the call
 abbrev pub AskEnds : ℕ → Frame → Wanted → Ask → ℕ → ℕ → Option AppendEnd → Type 0
 AskEnds session ask wanted a before now None = IsUnfinished session ask wanted a.wait a.left a.sent before now
-AskEnds session ask wanted a before now (Some (Refused code of)) = IsRefused session wanted a.wait code of × (a.sent ≡ spelling ask)
+AskEnds session ask wanted a before now (Some (Refused code of)) = IsRefused session wanted a.wait code of
+    × (a.sent ≡ spelling ask)
 AskEnds session ask wanted a before now _ = ⊥
 
 -- the message of this number was asked for last
-pub record IsFlown (session number : ℕ) (flight : Option Flight) (a : Ask) (before now : ℕ) (end : Option AppendEnd) : Type 0 where
+pub record IsFlown (session number : ℕ) (flight : Option Flight) (a : Ask) (before now : ℕ) (end : Option AppendEnd) :
+    Type 0 where
   pub below : number < 2 ^ 48
   pub payload : List ℕ
   pub is : flight ≡ Some (record { number = number; payload = payload })
@@ -117,21 +125,25 @@ pub record IsFlown (session number : ℕ) (flight : Option Flight) (a : Ask) (be
 abbrev pub IsAtRest : Option Flight → Ask → Type 0
 IsAtRest flight a = (flight ≡ None) × IsIdle a
 
--- why no more lines were sent on a connection, where the next message has this number, and `rest` is what was then to come of the script
+-- why no more lines were sent on a connection, where the next message has this number, and `rest` is what was then to
+-- come of the script
 abbrev pub LinesEnd : ℕ → ℕ → Option Flight → Ask → Option (List ℕ) → ℕ → ℕ → Option AppendEnd → Type 0
 LinesEnd session number flight a rest before now None = IsFlown session number flight a before now None
-LinesEnd session number flight a rest before now (Some (Refused code of)) = IsFlown session number flight a before now (Some (Refused code of))
+LinesEnd session number flight a rest before now (Some (Refused code of)) = IsFlown session number flight a before now
+    (Some (Refused code of))
 LinesEnd session number flight a rest before now (Some Done) = IsAtRest flight a × IsAtEnd rest
 LinesEnd session number flight a rest before now (Some Read) = IsAtRest flight a
 LinesEnd session number flight a rest before now (Some Write) = IsAtRest flight a
-LinesEnd session number flight a rest before now (Some Script) = IsAtRest flight a × (IfSome rest IsFaulty ⊎ ((2 ^ 48 ≤ number) × IfSome rest IsSome))
+LinesEnd session number flight a rest before now (Some Script) = IsAtRest flight a
+    × (IfSome rest IsFaulty ⊎ ((2 ^ 48 ≤ number) × IfSome rest IsSome))
 LinesEnd session number flight a rest before now (Some _) = ⊥
 
--- What was done on one connection: no WELCOME came, or one did. That counts the message that was under way before, or not; then lines were
--- read, and messages were acknowledged; `flight` is what is under way at the end.
+-- What was done on one connection: no WELCOME came, or one did. That counts the message that was under way before, or
+-- not; then lines were read, and messages were acknowledged; `flight` is what is under way at the end.
 pub data Visit : Type 0 where
   Ungreeted : (ask : Ask) → Visit
-  Greeted : (wait : Wait) (welcome : Frame) (counted : List (List ℕ)) (turns : List Turn) (lines : List Line) (flight : Option Flight) (ask : Ask) → Visit
+  Greeted : (wait : Wait) (welcome : Frame) (counted : List (List ℕ)) (turns : List Turn) (lines : List Line)
+      (flight : Option Flight) (ask : Ask) → Visit
 
 -- WELCOME tells the number of the message that was under way, or one more, and then counts it
 abbrev pub IsCounted : Option Flight → ℕ → List (List ℕ) → Type 0
@@ -146,7 +158,8 @@ IsElsewhere None number = ⊥
 IsElsewhere (Some f) number = (number ≢ f.number) × (number ≢ f.number + 1)
 
 -- nothing was done after a WELCOME with another number
-pub record StopsElsewhere (before : Option Flight) (number : ℕ) (counted : List (List ℕ)) (turns : List Turn) (flight : Option Flight) (a : Ask) (end : Option AppendEnd) : Type 0 where
+pub record StopsElsewhere (before : Option Flight) (number : ℕ) (counted : List (List ℕ)) (turns : List Turn)
+    (flight : Option Flight) (a : Ask) (end : Option AppendEnd) : Type 0 where
   pub elsewhere : IsElsewhere before number
   pub none : counted ≡ []
   pub no_turns : turns ≡ []
@@ -154,17 +167,21 @@ pub record StopsElsewhere (before : Option Flight) (number : ℕ) (counted : Lis
   pub idle : IsIdle a
   pub is : end ≡ Some (Elsewhere number)
 
--- the message that was under way and the lines that were read are those that were acknowledged and the one that is under way
+-- the message that was under way and the lines that were read are those that were acknowledged and the one that is
+-- under way
 abbrev pub AreInOrder : Option Flight → List Line → List (List ℕ) → Option Flight → Type 0
 AreInOrder before lines acknowledged now = payloads lines ++ flying before ≡ flying now ++ acknowledged
 
 -- a connection where this message was under way before it; `rest` is what was to come of the script behind its lines
 abbrev pub IsVisit : SessionRow → Option Flight → Visit → Option (List ℕ) → ℕ → ℕ → Option AppendEnd → Type 0
-IsVisit row before (Ungreeted a) rest faults now_faults end = AskEnds row.id (hello_frame row) wanted.Welcome a faults now_faults end
-IsVisit row before (Greeted wait welcome counted turns lines flight a) rest faults now_faults end = Answers row.id wanted.Welcome wait welcome
+IsVisit row before (Ungreeted a) rest faults now_faults end = AskEnds row.id (hello_frame row) wanted.Welcome a faults
+    now_faults end
+IsVisit row before (Greeted wait welcome counted turns lines flight a) rest faults now_faults end = Answers row.id
+    wanted.Welcome wait welcome
     × AreTurns row.id welcome.number turns × AreLines lines
     × AreInOrder before lines (messages turns ++ counted) flight
-    × ((IsCounted before welcome.number counted × LinesEnd row.id (welcome.number + length turns) flight a rest faults now_faults end)
+    × ((IsCounted before welcome.number counted × LinesEnd row.id (welcome.number + length turns) flight a rest faults
+    now_faults end)
     ⊎ StopsElsewhere before welcome.number counted turns flight a end)
 
 abbrev pub flight_after : Option Flight → Visit → Option Flight
@@ -189,7 +206,8 @@ looks_in (Greeted wait welcome counted turns lines flight a) = wait.looks ++ (lo
 
 abbrev pub sent_in : SessionRow → Visit → List ℕ
 sent_in row (Ungreeted a) = a.sent
-sent_in row (Greeted wait welcome counted turns lines flight a) = spelling (hello_frame row) ++ (sendings row.id welcome.number turns ++ a.sent)
+sent_in row (Greeted wait welcome counted turns lines flight a) = spelling (hello_frame row) ++ (sendings row.id
+    welcome.number turns ++ a.sent)
 
 abbrev pub told_in : Visit → ℕ
 told_in (Ungreeted a) = 0
@@ -267,14 +285,17 @@ module _ {L : Type 0} (t : LinkTells L) (row : SessionRow) (most : ℕ) where
   AreTries [] = Unit {0}
   AreTries (x ∷ past) = IsTry past x None None × AreTries past
 
-  -- no look is left for another attempt, or the last connection ended the call; `rest` is what was then to come of the script
+  -- no look is left for another attempt, or the last connection ended the call; `rest` is what was then to come of
+  -- the script
   abbrev pub EndsBy : ℕ → List (Option (Made L)) → Option (List ℕ) → AppendEnd → Type 0
   EndsBy left tries rest Unfinished = (left ≡ 0) × AreTries tries
   EndsBy left [] rest end = ⊥
   EndsBy left (x ∷ past) rest end = IsTry past x rest (Some end) × AreTries past
 
-  -- The call: `all` was to come of the script before it, and `after` behind it. It read at most a line and 4,096 bytes ahead.
-  pub record AppendsLines (tries : List (Option (Made L))) (all after : Option (List ℕ)) (end : AppendEnd) (lines next : ℕ) (printed : List ℕ) : Type 0 where
+  -- The call: `all` was to come of the script before it, and `after` behind it. It read at most a line and 4,096
+  -- bytes ahead.
+  pub record AppendsLines (tries : List (Option (Made L))) (all after : Option (List ℕ)) (end : AppendEnd)
+      (lines next : ℕ) (printed : List ℕ) : Type 0 where
     pub rest : Option (List ℕ)
     pub left : ℕ
     pub ends : EndsBy left tries rest end

@@ -9,6 +9,6 @@ pub record IsCalmCall (n : Counts) : Type 0 where
   pub out : Rose n.out n.now_out → ⊥
   pub other : Rose n.other n.now_other → ⊥
 
--- both are fronts of one list
-abbrev pub AreFronts : {A : Type 0} → List A → List A → Type 0
-AreFronts {A} xs ys = (later other : List A) × (xs ++ later ≡ ys ++ other)
+-- both are prefixes of one list
+abbrev pub ArePrefixes : {A : Type 0} → List A → List A → Type 0
+ArePrefixes {A} xs ys = (later other : List A) × (xs ++ later ≡ ys ++ other)

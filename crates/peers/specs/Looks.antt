@@ -20,7 +20,7 @@ AreCalm (Byte b ∷ rest) = AreCalm rest
 AreCalm (NotYet ∷ rest) = AreCalm rest
 AreCalm (_ ∷ rest) = ⊥
 
--- the bytes are these frames, and the front of one more
+-- the bytes are these frames, and the prefix of one more
 pub record Hears (looks : List Looked) (frames : List Frame) : Type 0 where
   pub calm : AreCalm looks
   pub rest : List ℕ
@@ -30,16 +30,18 @@ pub record Hears (looks : List Looked) (frames : List Frame) : Type 0 where
 pub record HearsJust (looks : List Looked) (frames : List Frame) : Type 0 where
   pub calm : AreCalm looks
   pub stream : IsStream (bytes_in looks) frames (Within [])
-  pub prompt : (looks ≡ []) ⊎ ((front : List Looked) × (byte : ℕ) × (looks ≡ front ++ Byte byte ∷ []))
+  pub prompt : (looks ≡ []) ⊎ ((prefix : List Looked) × (byte : ℕ) × (looks ≡ prefix ++ Byte byte ∷ []))
 
 -- the looks before the last gave these frames, and the last was this one
 abbrev pub EndsAt : List Looked → List Frame → Looked → Type 0
-EndsAt looks frames last = (front : List Looked) × (looks ≡ front ++ last ∷ []) × Hears front frames
+EndsAt looks frames last = (prefix : List Looked) × (looks ≡ prefix ++ last ∷ []) × Hears prefix frames
 
 -- the last look gave a byte after which no lawful frame begins so
 abbrev pub IsBad : List Looked → List Frame → Type 0
-IsBad looks frames = (byte : ℕ) × (at : ℕ) × EndsAt looks frames (Byte byte) × IsStream (bytes_in looks) frames (Stopped at)
+IsBad looks frames = (byte : ℕ) × (at : ℕ) × EndsAt looks frames (Byte byte)
+    × IsStream (bytes_in looks) frames (Stopped at)
 
 -- behind these frames came bad bytes, or the link's end, or a look that failed, as its count shows
 abbrev pub IsOver : List Looked → List Frame → ℕ → ℕ → Type 0
-IsOver looks frames before now = IsBad looks frames ⊎ (EndsAt looks frames Ended ⊎ (EndsAt looks frames Failed × Rose before now))
+IsOver looks frames before now = IsBad looks frames
+    ⊎ (EndsAt looks frames Ended ⊎ (EndsAt looks frames Failed × Rose before now))

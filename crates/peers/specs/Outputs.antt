@@ -10,18 +10,21 @@ abbrev pub plain_frame : Kind → ℕ → ℕ → Frame
 plain_frame kind session number = record { kind = kind; session = session; number = number; payload = [] }
 
 -- these bytes are the first of those
-abbrev pub IsFront : List ℕ → List ℕ → Type 0
-IsFront front bytes = (rest : List ℕ) × (bytes ≡ front ++ rest)
+abbrev pub IsPrefix : List ℕ → List ℕ → Type 0
+IsPrefix prefix bytes = (rest : List ℕ) × (bytes ≡ prefix ++ rest)
 
--- a front of the bytes was sent, and all of them where it says so
+-- a prefix of the bytes was sent, and all of them where it says so
 abbrev pub SendsPart : (List ℕ → Type 0) → (List ℕ → Type 0) → Bool → List ℕ → Type 0
-SendsPart old new whole bytes = (front : List ℕ) × IsFront front bytes × (whole ≡ true → front ≡ bytes) × Grows old new front
+SendsPart old new whole bytes = (prefix : List ℕ) × IsPrefix prefix bytes × (whole ≡ true → prefix ≡ bytes)
+    × Grows old new prefix
 
--- a front of the bytes was written, and all of them where it says so
+-- a prefix of the bytes was written, and all of them where it says so
 abbrev pub PrintsPart : Option (List ℕ) → Option (List ℕ) → Bool → List ℕ → Type 0
-PrintsPart old new whole bytes = (front : List ℕ) × IsFront front bytes × (whole ≡ true → front ≡ bytes) × Appends old new front
+PrintsPart old new whole bytes = (prefix : List ℕ) × IsPrefix prefix bytes × (whole ≡ true → prefix ≡ bytes)
+    × Appends old new prefix
 
--- how many calls have failed, before a call and after it: of the link, of the sink, and of the sender's script or the receiver's disk
+-- how many calls have failed, before a call and after it: of the link, of the sink, and of the sender's script or the
+-- receiver's disk
 pub record Counts : Type 0 where
   pub link : ℕ
   pub now_link : ℕ

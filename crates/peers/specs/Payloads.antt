@@ -20,7 +20,8 @@ pub record IsFaulty (bytes : List ℕ) : Type 0 where
 
 -- what a reader of these lines answers, by what is to come before the call and after it
 abbrev pub IsNextPayload : Option (List ℕ) → Option (List ℕ) → List ℕ → Lined → Type 0
-IsNextPayload old new payload lined.Payload = (line : List ℕ) × IsPayload payload line × Consumes old new (line ++ 10 ∷ [])
+IsNextPayload old new payload lined.Payload = (line : List ℕ) × IsPayload payload line
+    × Consumes old new (line ++ 10 ∷ [])
 IsNextPayload old new payload lined.Bad = IfSome old IsFaulty
 IsNextPayload old new payload lined.End = IsAtEnd old
 IsNextPayload old new payload lined.Failed = Unit {0}

@@ -1,5 +1,6 @@
 -- What High's receiver does on a connection.
-use Rattle.std.specs.Prelude.{◌≡◌, ◌⊎◌, ℕ, ◌+◌, ◌<◌, ◌≤◌, ◌==◌, ◌&&◌, nat_le, Bool, true, false, List, [], ◌∷◌, ◌++◌, length, Option, Some, None}
+use Rattle.std.specs.Prelude.{◌≡◌, ◌⊎◌, ℕ, ◌+◌, ◌<◌, ◌≤◌, ◌==◌, ◌&&◌, nat_le, Bool, true, false, List, [], ◌∷◌, ◌++◌}
+use Rattle.std.specs.Prelude.{length, Option, Some, None}
 use Rattle.pump_frame.specs.Counts.{Rose}
 use Rattle.pump_frame.specs.declared.frame.Frame.{Frame}
 use Rattle.pump_frame.specs.declared.frame.Kind.{Kind}
@@ -12,13 +13,14 @@ use Rattle.stable_buffer.specs.Log.{RecvStands}
 use Rattle.high_receiver.specs.declared.receiver.Receiver.{Receiver}
 use Rattle.high_receiver.specs.declared.values.Taken.{Taken as Outcome}
 use Rattle.high_receiver.specs.declared.values.Taken.TheVariants as outcome
-use Rattle.high_receiver.specs.Receiving.{IsRecvReady, recv_disk, recv_count, recv_end, recv_row, recv_size, recv_is_open}
+use Rattle.high_receiver.specs.Receiving.{IsRecvReady, recv_disk, recv_count, recv_end, recv_row, recv_size}
+use Rattle.high_receiver.specs.Receiving.{recv_is_open}
 use Rattle.script_reader.specs.declared.event.Event.TheVariants as events
 use Rattle.script_reader.specs.Transcript.{event_line}
 use Rattle.peers.specs.declared.receive.ReceiveEnd.{ReceiveEnd}
 use Rattle.peers.specs.declared.receive.ReceiveEnd.TheVariants.{Ended, Looks, Write, Device, Ahead, LogFull}
 use Rattle.peers.specs.Looks.{Hears, HearsJust, IsOver}
-use Rattle.peers.specs.Outputs.{Counts, IsFront, plain_frame}
+use Rattle.peers.specs.Outputs.{Counts, IsPrefix, plain_frame}
 
 abbrev pub is_data : Kind → Bool
 is_data Data = true
@@ -111,8 +113,8 @@ sendings session count (t ∷ past) = sendings session count past ++ answer_in s
 
 -- ---- the end ----
 
--- what one call did: its turns, the looks that heard their frames, the looks of the last wait and the frame that it brought, if the
--- receiver did not take it, how many looks were left, and all that was sent and printed
+-- what one call did: its turns, the looks that heard their frames, the looks of the last wait and the frame that it
+-- brought, if the receiver did not take it, how many looks were left, and all that was sent and printed
 pub record Reception : Type 0 where
   pub turns : List Turn
   pub heard : List Looked
@@ -141,15 +143,17 @@ pub record Stops (x : Reception) : Type 0 where
   pub none : x.refused ≡ None
   pub looks : x.looks ≡ []
 
--- of the last turn's answer only a front was sent, or of ATTACH where there are no turns
+-- of the last turn's answer only a prefix was sent, or of ATTACH where there are no turns
 abbrev pub IsCutAnswer : ℕ → ℕ → List Turn → List ℕ → Type 0
-IsCutAnswer session count [] sent = IsFront sent (spelling (plain_frame Attach session count))
-IsCutAnswer session count (t ∷ past) sent = (front : List ℕ) × IsFront front (answer_in session t) × (sent ≡ sendings session count past ++ front)
+IsCutAnswer session count [] sent = IsPrefix sent (spelling (plain_frame Attach session count))
+IsCutAnswer session count (t ∷ past) sent = (prefix : List ℕ) × IsPrefix prefix (answer_in session t)
+    × (sent ≡ sendings session count past ++ prefix)
 
--- .. of the last turn's line only a front was printed, and its answer was not sent
+-- .. of the last turn's line only a prefix was printed, and its answer was not sent
 abbrev pub IsCutLine : ℕ → ℕ → List Turn → List ℕ → List ℕ → Type 0
 IsCutLine session count [] sent printed = ⊥
-IsCutLine session count (t ∷ past) sent printed = (front : List ℕ) × IsFront front (line_in session t) × (printed ≡ lines session past ++ front)
+IsCutLine session count (t ∷ past) sent printed = (prefix : List ℕ) × IsPrefix prefix (line_in session t)
+    × (printed ≡ lines session past ++ prefix)
     × (sent ≡ sendings session count past)
 
 -- why it ended, where `p` is the place after the turns
@@ -166,7 +170,8 @@ EndsBy row size count p x n (LogFull end size_of limit) = (f : Frame) × Refuses
     × (size < p.end + 2 + length f.payload) × (end ≡ p.end) × (size_of ≡ length f.payload) × (limit ≡ size)
 
 -- the call, from a receiver at this place, with so many looks at most
-pub record Receives (row : SessionRow) (size most : ℕ) (start : Place) (x : Reception) (n : Counts) (end : ReceiveEnd) : Type 0 where
+pub record Receives (row : SessionRow) (size most : ℕ) (start : Place) (x : Reception) (n : Counts) (end : ReceiveEnd) :
+    Type 0 where
   pub turns : AreTurns row size start x.turns
   pub heard : HearsJust x.heard (frames x.turns)
   pub used : most ≡ x.left + length (x.heard ++ x.looks)
@@ -178,9 +183,10 @@ abbrev pub is_device : ReceiveEnd → Bool
 is_device (Device faults) = true
 is_device _ = false
 
--- the disk stands for the messages from before, and a front of these
-abbrev pub StandsForFront : SessionRow → List (List ℕ) → List (List ℕ) → List ℕ → Type 0
-StandsForFront row before taken disk = (front rest : List (List ℕ)) × (taken ≡ front ++ rest) × RecvStands row (before ++ front) disk
+-- the disk stands for the messages from before, and a prefix of these
+abbrev pub StandsForPrefix : SessionRow → List (List ℕ) → List (List ℕ) → List ℕ → Type 0
+StandsForPrefix row before taken disk = (prefix rest : List (List ℕ)) × (taken ≡ prefix ++ rest)
+    × RecvStands row (before ++ prefix) disk
 
 abbrev pub option_payload : Option Frame → List (List ℕ)
 option_payload None = []
@@ -191,17 +197,20 @@ abbrev pub attempted : Reception → ReceiveEnd → List (List ℕ)
 attempted x (Device faults) = messages x.turns ++ option_payload x.refused
 attempted x _ = messages x.turns
 
--- The receiver's list grew by just the messages of the turns. A crash at any moment of the call leaves it with a front of them. After a
--- failure of the disk the receiver is closed, and the message of the last frame is on the disk or not.
-pub record KeepsReceiver {D : Type 0} (m : Meaning D) (row : SessionRow) (old new : Receiver D) (x : Reception) (end : ReceiveEnd) : Type 0 where
+-- The receiver's list grew by just the messages of the turns. A crash at any moment of the call leaves it with a
+-- prefix of them. After a failure of the disk the receiver is closed, and the message of the last frame is on the
+-- disk or not.
+pub record KeepsReceiver {D : Type 0} (m : Meaning D) (row : SessionRow) (old new : Receiver D) (x : Reception)
+    (end : ReceiveEnd) : Type 0 where
   pub place : is_device end ≡ false → place_of new ≡ place_after (place_of old) x.turns
   pub ready : is_device end ≡ false → IsRecvReady m new
   pub closed : is_device end ≡ true → recv_is_open new ≡ false
   pub same_row : recv_row new ≡ recv_row old
   pub same_size : recv_size new ≡ recv_size old
-  pub grown : is_device end ≡ false → m.tells → (before : List (List ℕ)) → RecvStands row before (m.reading (recv_disk old))
+  pub grown : is_device end ≡ false → m.tells → (before : List (List ℕ))
+      → RecvStands row before (m.reading (recv_disk old))
       → RecvStands row (before ++ messages x.turns) (m.reading (recv_disk new))
   pub reads : m.tells → (before : List (List ℕ)) → RecvStands row before (m.reading (recv_disk old))
-      → StandsForFront row before (attempted x end) (m.reading (recv_disk new))
+      → StandsForPrefix row before (attempted x end) (m.reading (recv_disk new))
   pub during : (before : List (List ℕ)) → RecvStands row before (m.reading (recv_disk old))
-      → Leaves m (recv_disk old) (recv_disk new) (StandsForFront row before (attempted x end))
+      → Leaves m (recv_disk old) (recv_disk new) (StandsForPrefix row before (attempted x end))

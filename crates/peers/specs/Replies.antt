@@ -1,12 +1,12 @@
--- What the functions that await an answer give. Only clauses of private functions name these.
+-- What the functions that await a frame or an answer give.
 use Rattle.std.specs.Prelude.{◌≡◌, ℕ, ◌<◌, List, [], ◌∷◌, Option, None, Some}
 use Rattle.pump_frame.specs.declared.frame.Frame.{Frame}
 use Rattle.pump_frame.specs.Spellings.{spelling}
 use Rattle.pump_link.specs.declared.link.Looked.{Looked}
-use Rattle.peers.specs.declared.ask.Wanted.{Wanted}
-use Rattle.peers.specs.declared.ask.Wanted.TheVariants as wanted
-use Rattle.peers.specs.declared.ask.Reply.{Reply}
-use Rattle.peers.specs.declared.ask.Reply.TheVariants.{Came, Refused, Unanswered}
+use Rattle.peers.specs.declared.asking.Wanted.{Wanted}
+use Rattle.peers.specs.declared.asking.Wanted.TheVariants as wanted
+use Rattle.peers.specs.declared.asking.Reply.{Reply}
+use Rattle.peers.specs.declared.asking.Reply.TheVariants.{Came, Refused, Unanswered}
 use Rattle.peers.specs.declared.looks.Waited.{Waited}
 use Rattle.peers.specs.declared.looks.Waited.TheVariants.{Frame as HeardFrame, Over, Used}
 use Rattle.peers.specs.Looks.{Hears, HearsJust, IsOver}
@@ -33,11 +33,14 @@ WaitsFor session wanted w left before now Unanswered = IsUnanswered session want
 
 -- .. after a frame was sent
 abbrev pub AsksFor : ℕ → Frame → Wanted → Wait → ℕ → List ℕ → ℕ → ℕ → Reply → Type 0
-AsksFor session ask wanted w left sent before now (Came number) = (f : Frame) × Answers session wanted w f × (number ≡ f.number) × (sent ≡ spelling ask)
-AsksFor session ask wanted w left sent before now (Refused code number) = IsRefused session wanted w code number × (sent ≡ spelling ask)
+AsksFor session ask wanted w left sent before now (Came number) = (f : Frame) × Answers session wanted w f
+    × (number ≡ f.number) × (sent ≡ spelling ask)
+AsksFor session ask wanted w left sent before now (Refused code number) = IsRefused session wanted w code number
+    × (sent ≡ spelling ask)
 AsksFor session ask wanted w left sent before now Unanswered = IsUnfinished session ask wanted w left sent before now
 
 -- a message was sent: it was acknowledged and that was printed, or it ended the call
 abbrev pub Sends : Frame → Last → Counts → Option SendEnd → Type 0
-Sends f last n None = (ack : Frame) × Answers f.session (wanted.Ack f.number) last.wait ack × (last.sent ≡ spelling f) × (last.printed ≡ ack_line f.number)
+Sends f last n None = (ack : Frame) × Answers f.session (wanted.Ack f.number) last.wait ack × (last.sent ≡ spelling f)
+    × (last.printed ≡ ack_line f.number)
 Sends f last n (Some end) = MessageEnds f last n end

@@ -1,5 +1,6 @@
 -- What Low's sender does on a connection.
-use Rattle.std.specs.Prelude.{◌≡◌, ◌⊎◌, ℕ, ◌+◌, ◌-◌, ◌^◌, ◌<◌, ◌≤◌, ◌==◌, ◌&&◌, min, Bool, true, false, List, [], ◌∷◌, ◌++◌, length, slice_index, codes, decimal, Option, IfSome}
+use Rattle.std.specs.Prelude.{◌≡◌, ◌⊎◌, ℕ, ◌+◌, ◌-◌, ◌^◌, ◌<◌, ◌≤◌, ◌==◌, ◌&&◌, min, Bool, true, false, List, [], ◌∷◌}
+use Rattle.std.specs.Prelude.{◌++◌, length, slice_index, codes, decimal, Option, IfSome}
 use Rattle.std.specs.List.{AllByRecursion}
 use Rattle.std.specs.Io.KnownBytes.{Consumes, IsAtEnd}
 use Rattle.pump_frame.specs.Counts.{Rose}
@@ -12,12 +13,12 @@ use Rattle.pump_frame.specs.Spellings.{spelling}
 use Rattle.pump_link.specs.declared.link.Looked.{Looked}
 use Rattle.script_reader.specs.Transcript.{line_with_end}
 use Rattle.script_reader.specs.Lines.{IsSome}
-use Rattle.peers.specs.declared.ask.Wanted.{Wanted}
-use Rattle.peers.specs.declared.ask.Wanted.TheVariants as wanted
+use Rattle.peers.specs.declared.asking.Wanted.{Wanted}
+use Rattle.peers.specs.declared.asking.Wanted.TheVariants as wanted
 use Rattle.peers.specs.declared.send.SendEnd.{SendEnd}
 use Rattle.peers.specs.declared.send.SendEnd.TheVariants.{Done, Read, Write, Script, Refused, Unfinished}
 use Rattle.peers.specs.Looks.{Hears, HearsJust, IsOver}
-use Rattle.peers.specs.Outputs.{Counts, IsFront}
+use Rattle.peers.specs.Outputs.{Counts, IsPrefix}
 use Rattle.peers.specs.Payloads.{IsPayload, IsFaulty, TakesAtMost}
 
 -- ---- one frame that is sent, and its answer ----
@@ -77,7 +78,7 @@ pub record IsUnanswered (session : ℕ) (wanted : Wanted) (w : Wait) (left befor
 -- the frame was not sent whole, or no answer to it was heard
 abbrev pub IsUnfinished : ℕ → Frame → Wanted → Wait → ℕ → List ℕ → ℕ → ℕ → Type 0
 IsUnfinished session ask wanted w left sent before now =
-    ((w.looks ≡ []) × IsFront sent (spelling ask) × Rose before now)
+    ((w.looks ≡ []) × IsPrefix sent (spelling ask) × Rose before now)
     ⊎ (IsUnanswered session wanted w left before now × (sent ≡ spelling ask))
 
 -- what a call did last: the looks for an answer, how many looks were left, and what was sent and printed
@@ -89,8 +90,10 @@ pub record Last : Type 0 where
 
 -- a frame was refused, or not answered, which ended the call; `number` is that of the least message not acknowledged
 abbrev pub AskEnds : ℕ → Frame → Wanted → ℕ → Last → Counts → SendEnd → Type 0
-AskEnds session ask wanted number last n (Refused code of) = IsRefused session wanted last.wait code of × (last.sent ≡ spelling ask) × (last.printed ≡ [])
-AskEnds session ask wanted number last n (Unfinished of) = IsUnfinished session ask wanted last.wait last.left last.sent n.link n.now_link × (last.printed ≡ []) × (of ≡ number)
+AskEnds session ask wanted number last n (Refused code of) = IsRefused session wanted last.wait code of
+    × (last.sent ≡ spelling ask) × (last.printed ≡ [])
+AskEnds session ask wanted number last n (Unfinished of) = IsUnfinished session ask wanted last.wait last.left last.sent
+    n.link n.now_link × (last.printed ≡ []) × (of ≡ number)
 AskEnds session ask wanted number last n _ = ⊥
 
 -- ---- turns, the newest first: turn i is that of line i + 1 of the script, and its payload is message i ----
@@ -108,7 +111,8 @@ ack_line number = line_with_end (codes "ack" ∷ decimal number ∷ [])
 
 abbrev pub IsTurn : ℕ → ℕ → ℕ → Turn → Type 0
 IsTurn session first number (Skipped payload line) = (number < first) × IsPayload payload line
-IsTurn session first number (Acked payload line wait ack) = (first ≤ number) × IsPayload payload line × Answers session (wanted.Ack number) wait ack
+IsTurn session first number (Acked payload line wait ack) = (first ≤ number) × IsPayload payload line
+    × Answers session (wanted.Ack number) wait ack
 
 abbrev pub AreTurns : ℕ → ℕ → List Turn → Type 0
 AreTurns session first [] = Unit {0}
@@ -157,12 +161,14 @@ pub record IsIdle (last : Last) : Type 0 where
 
 -- the message of a line ended the call: it was not acknowledged, or that could not be printed
 abbrev pub MessageEnds : Frame → Last → Counts → SendEnd → Type 0
-MessageEnds f last n Write = (ack : Frame) × Answers f.session (wanted.Ack f.number) last.wait ack × (last.sent ≡ spelling f) × IsFront last.printed (ack_line f.number)
+MessageEnds f last n Write = (ack : Frame) × Answers f.session (wanted.Ack f.number) last.wait ack
+    × (last.sent ≡ spelling f) × IsPrefix last.printed (ack_line f.number)
     × Rose n.out n.now_out
 MessageEnds f last n end = AskEnds f.session f (wanted.Ack f.number) f.number last n end
 
 -- what is to come of the script begins with the line of a message that is to be sent, and it ended the call
-pub record LineEnds (session first number : ℕ) (rest : Option (List ℕ)) (last : Last) (n : Counts) (end : SendEnd) : Type 0 where
+pub record LineEnds (session first number : ℕ) (rest : Option (List ℕ)) (last : Last) (n : Counts) (end : SendEnd) :
+    Type 0 where
   pub below : first ≤ number
   pub few : number < 2 ^ 32 - 1
   pub payload : List ℕ
@@ -189,8 +195,8 @@ pub data Sending : Type 0 where
   Ungreeted : (last : Last) → Sending
   Greeted : (wait : Wait) (welcome : Frame) (turns : List Turn) (last : Last) → Sending
 
--- The call, with so many looks at most: `all` was to come of the script before it, and `left` after it. It read at most a line and 4,096
--- bytes ahead.
+-- The call, with so many looks at most: `all` was to come of the script before it, and `left` after it. It read at
+-- most a line and 4,096 bytes ahead.
 abbrev pub Sends : SessionRow → ℕ → Option (List ℕ) → Option (List ℕ) → Sending → Counts → SendEnd → Type 0
 Sends row most all left (Ungreeted last) n end = AskEnds row.id (hello_frame row) wanted.Welcome 0 last n end
     × (most ≡ last.left + length last.wait.looks) × TakesAtMost 0 all left

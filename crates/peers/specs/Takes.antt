@@ -9,25 +9,31 @@ use Rattle.high_receiver.specs.declared.receiver.Receiver.{Receiver}
 use Rattle.high_receiver.specs.Receiving.{IsRecvReady, recv_disk, recv_row, recv_size, recv_is_open}
 use Rattle.peers.specs.declared.receive.ReceiveEnd.{ReceiveEnd}
 use Rattle.peers.specs.declared.receive.ReceiveEnd.TheVariants.{Ended, Looks, Write, Device, Ahead, LogFull}
-use Rattle.peers.specs.Outputs.{Counts, IsFront}
-use Rattle.peers.specs.Receiving.{Turn, IsTurn, IsNext, place_of, place_by, frame_in, message_in, answer_in, line_in, is_wanted, StandsForFront}
+use Rattle.peers.specs.Outputs.{Counts, IsPrefix}
+use Rattle.peers.specs.Receiving.{Turn, IsTurn, IsNext, place_of, place_by, frame_in, message_in, answer_in, line_in}
+use Rattle.peers.specs.Receiving.{is_wanted, StandsForPrefix}
 
--- what a crash at some moment since an earlier one may have left: what it might before, or a front of these messages more
-abbrev pub LeavesFront : {D : Type 0} → Meaning D → SessionRow → D → D → List (List ℕ) → Type 0
-LeavesFront m row old new taken = (before : List (List ℕ)) → RecvStands row before (m.reading old) → m.tells_images → (t : ℕ) (c : List ℕ)
-    → t ≤ m.moment old → m.since new t c → m.since old t c ⊎ StandsForFront row before taken c
+-- what a crash at some moment since an earlier one may have left: what it might before, or a prefix of these messages
+-- more
+abbrev pub LeavesPrefix : {D : Type 0} → Meaning D → SessionRow → D → D → List (List ℕ) → Type 0
+LeavesPrefix m row old new taken = (before : List (List ℕ)) → RecvStands row before (m.reading old) → m.tells_images
+    → (t : ℕ) (c : List ℕ)
+    → t ≤ m.moment old → m.since new t c → m.since old t c ⊎ StandsForPrefix row before taken c
 
 -- the disk stands for these messages more
 pub record GrowsBy {D : Type 0} (m : Meaning D) (row : SessionRow) (old new : D) (taken : List (List ℕ)) : Type 0 where
   pub later : m.moment old ≤ m.moment new
   pub counts : m.count old ≤ m.count new
-  pub stands : m.tells → (before : List (List ℕ)) → RecvStands row before (m.reading old) → RecvStands row (before ++ taken) (m.reading new)
-  pub leaves : LeavesFront m row old new taken
+  pub stands : m.tells → (before : List (List ℕ)) → RecvStands row before (m.reading old)
+      → RecvStands row (before ++ taken) (m.reading new)
+  pub leaves : LeavesPrefix m row old new taken
 
--- .. or for a front of them, since it failed
-pub record GrowsPart {D : Type 0} (m : Meaning D) (row : SessionRow) (old new : D) (taken : List (List ℕ)) : Type 0 where
-  pub reads : m.tells → (before : List (List ℕ)) → RecvStands row before (m.reading old) → StandsForFront row before taken (m.reading new)
-  pub leaves : LeavesFront m row old new taken
+-- .. or for a prefix of them, since it failed
+pub record GrowsPart {D : Type 0} (m : Meaning D) (row : SessionRow) (old new : D) (taken : List (List ℕ)) : Type 0
+  where
+    pub reads : m.tells → (before : List (List ℕ)) → RecvStands row before (m.reading old)
+        → StandsForPrefix row before taken (m.reading new)
+    pub leaves : LeavesPrefix m row old new taken
 
 -- a turn was made
 pub record MakesTurn {D : Type 0} (m : Meaning D) (row : SessionRow) (t : Turn) (old new : Receiver D) : Type 0 where
@@ -50,15 +56,23 @@ pub record Step : Type 0 where
 abbrev pub IsSilent : Step → Type 0
 IsSilent x = (x.sent ≡ []) × (x.printed ≡ [])
 
-abbrev pub TakesFrame : {D : Type 0} → Meaning D → SessionRow → Frame → Receiver D → Receiver D → Step → Counts → Option ReceiveEnd → Type 0
-TakesFrame m row f old new x n None = (t : Turn) × (frame_in t ≡ f) × MakesTurn m row t old new × (x.sent ≡ answer_in row.id t) × (x.printed ≡ line_in row.id t)
-TakesFrame m row f old new x n (Some Ended) = (t : Turn) × (frame_in t ≡ f) × MakesTurn m row t old new × IsFront x.sent (answer_in row.id t) × (x.printed ≡ line_in row.id t)
+abbrev pub TakesFrame : {D : Type 0} → Meaning D → SessionRow → Frame → Receiver D → Receiver D → Step → Counts
+    → Option ReceiveEnd → Type 0
+TakesFrame m row f old new x n None = (t : Turn) × (frame_in t ≡ f) × MakesTurn m row t old new
+    × (x.sent ≡ answer_in row.id t) × (x.printed ≡ line_in row.id t)
+TakesFrame m row f old new x n (Some Ended) = (t : Turn) × (frame_in t ≡ f) × MakesTurn m row t old new
+    × IsPrefix x.sent (answer_in row.id t) × (x.printed ≡ line_in row.id t)
     × Rose n.link n.now_link
-TakesFrame m row f old new x n (Some Write) = (t : Turn) × (frame_in t ≡ f) × MakesTurn m row t old new × (x.sent ≡ []) × IsFront x.printed (line_in row.id t) × Rose n.out n.now_out
-TakesFrame m row f old new x n (Some (Device faults)) = (is_wanted row f ≡ true) × IsNext (recv_size old) (place_of old) f × (recv_is_open new ≡ false)
-    × (recv_row new ≡ recv_row old) × (recv_size new ≡ recv_size old) × Rose n.other n.now_other × (faults ≡ n.now_other)
+TakesFrame m row f old new x n (Some Write) = (t : Turn) × (frame_in t ≡ f) × MakesTurn m row t old new × (x.sent ≡ [])
+    × IsPrefix x.printed (line_in row.id t) × Rose n.out n.now_out
+TakesFrame m row f old new x n (Some (Device faults)) = (is_wanted row f ≡ true)
+    × IsNext (recv_size old) (place_of old) f × (recv_is_open new ≡ false)
+    × (recv_row new ≡ recv_row old) × (recv_size new ≡ recv_size old) × Rose n.other n.now_other
+    × (faults ≡ n.now_other)
     × GrowsPart m row (recv_disk old) (recv_disk new) (f.payload ∷ []) × IsSilent x
-TakesFrame m row f old new x n (Some (Ahead number count)) = Refused row f old new × ((place_of old).count < f.number) × (number ≡ f.number) × (count ≡ (place_of old).count) × IsSilent x
-TakesFrame m row f old new x n (Some (LogFull end size limit)) = Refused row f old new × (f.number ≡ (place_of old).count) × (recv_size old < (place_of old).end + 2 + length f.payload)
+TakesFrame m row f old new x n (Some (Ahead number count)) = Refused row f old new × ((place_of old).count < f.number)
+    × (number ≡ f.number) × (count ≡ (place_of old).count) × IsSilent x
+TakesFrame m row f old new x n (Some (LogFull end size limit)) = Refused row f old new
+    × (f.number ≡ (place_of old).count) × (recv_size old < (place_of old).end + 2 + length f.payload)
     × (end ≡ (place_of old).end) × (size ≡ length f.payload) × (limit ≡ recv_size old) × IsSilent x
 TakesFrame m row f old new x n (Some Looks) = ⊥

@@ -1,17 +1,20 @@
 // Low's sender of a stream, which connects again where a connection breaks.
-ghost use Rattle.std.specs.Prelude.{◌≡◌, ℕ, ◌+◌, ◌-◌, ◌^◌, ◌<◌, ◌≤◌, List, [], ◌∷◌, ◌++◌, decimal, Option, Some, true, false};
+ghost use Rattle.std.specs.Prelude.{◌≡◌, ℕ, ◌+◌, ◌-◌, ◌^◌, ◌<◌, ◌≤◌, List, [], ◌∷◌, ◌++◌, decimal, Option, Some, true};
+ghost use Rattle.std.specs.Prelude.{false};
 ghost use Rattle.std.specs.Io.KnownBytes.{Appends, Consumes};
 ghost use Rattle.arrayvec.specs.ArrayVec.{array_vec_len};
 ghost use Rattle.pump_frame.specs.Counts.{Rose};
 ghost use Rattle.pump_frame.specs.declared.frame.Kind.TheVariants.{Data};
 ghost use Rattle.pump_link.specs.Tells.{Draws, Grows};
-ghost use Rattle.peers.specs.Appender.{IsReady, Keeps, Holds, TakesWelcome, SendsLines, Visits, acknowledged, coming, flight_of, next_number};
-ghost use Rattle.peers.specs.Appending.{AppendsLines, Ask, Line, Made, Prints, Turn, Visit, appended_line, link_tells, looks_in, looks_of, sendings, sent_in, steps, texts};
+ghost use Rattle.peers.specs.Appender.{IsReady, Keeps, Holds, TakesWelcome, SendsLines, Visits, acknowledged, coming};
+ghost use Rattle.peers.specs.Appender.{flight_of, next_number};
+ghost use Rattle.peers.specs.Appending.{AppendsLines, Ask, Line, Made, Prints, Turn, Visit, appended_line, link_tells};
+ghost use Rattle.peers.specs.Appending.{looks_in, looks_of, sendings, sent_in, steps, texts};
 ghost use Rattle.peers.specs.Outputs.{PrintsPart};
 ghost use Rattle.peers.specs.Payloads.{TakesAtMost};
 ghost use Rattle.peers.specs.Sending.{ack_line};
 
-use crate::ask::{Reply, Wanted, ask};
+use crate::asking::{Reply, Wanted, ask};
 use crate::outputs::print;
 use crate::payload_lines::{Lined, PayloadLines};
 use crate::send::print_ack;
@@ -78,7 +81,8 @@ fn put_appended(into: &mut ArrayVec<u8, 96>, session: u32, appended: &Appended)
 /// Prints how many lines were acknowledged, and the number of the next message, and says whether the line was
 /// written whole.
 pub fn print_appended<O: Sink>(out: &mut O, session: u32, appended: &Appended) -> bool
-    ensures printed { PrintsPart (O.written out.old) (O.written out.new) result (appended_line session appended.now.lines appended.now.next) }
+    ensures printed { PrintsPart (O.written out.old) (O.written out.new) result
+        (appended_line session appended.now.lines appended.now.next) }
     ensures later { O.faults out.old ≤ O.faults out.new }
     ensures failed { result ≡ false → Rose (O.faults out.old) (O.faults out.new) }
 {
@@ -102,7 +106,18 @@ struct Appender {
 
 impl Appender {
     fn new(session: u32, looks: u32) -> Appender
-        ensures is { result ≡ record { script_lines = []; frame = record { kind = Data; session = session; number = 0; payload = [] }; is_held = false; lines = 0; left = looks } }
+        ensures is { result ≡ record {
+          script_lines = [];
+          frame = record {
+            kind = Data;
+            session = session;
+            number = 0;
+            payload = [];
+          };
+          is_held = false;
+          lines = 0;
+          left = looks;
+        } }
         ensures ready { IsReady result }
     {
         Appender {
@@ -139,7 +154,8 @@ impl Appender {
     fn welcome<O: Sink>(&mut self, number: u64, out: &mut O) -> Option<AppendEnd>
         requires below { self.old.is_held ≡ true → self.old.frame.number < 2 ^ 48 }
         requires few { self.old.lines < 2 ^ 32 - 1 }
-        ensures takes { (counted : List (List ℕ)) × (printed : List ℕ) × TakesWelcome self.old number self.new counted result
+        ensures takes { (counted : List (List ℕ)) × (printed : List ℕ)
+            × TakesWelcome self.old number self.new counted result
             × Prints result (next_number (flight_of self.old) number) counted printed
             × Appends (O.written out.old) (O.written out.new) printed }
         ensures later { O.faults out.old ≤ O.faults out.new }
@@ -165,7 +181,8 @@ impl Appender {
     // Holds the message of the next line, unless one is held; the end, if there is none.
     fn hold<I: Source>(&mut self, script: &mut I) -> Option<AppendEnd>
         requires ready { IsReady self.old }
-        ensures holds { (lines : List Line) × (rest : Option (List ℕ)) × Holds self.old self.new lines rest (coming self.new (I.left script.new)) result
+        ensures holds { (lines : List Line) × (rest : Option (List ℕ))
+            × Holds self.old self.new lines rest (coming self.new (I.left script.new)) result
             × Consumes (coming self.old (I.left script.old)) rest (texts lines)
             × TakesAtMost 2049 rest (coming self.new (I.left script.new)) }
         ensures ready { IsReady self.new }
@@ -199,9 +216,11 @@ impl Appender {
     ) -> Option<AppendEnd>
         requires ready { IsReady self.old }
         ensures lines { (turns : List Turn) × (lines : List Line) × (a : Ask) × (printed : List ℕ)
-            × SendsLines self.old self.new turns lines a (coming self.old (I.left script.old)) (coming self.new (I.left script.new)) (C.faults link.old) (C.faults link.new) result printed
+            × SendsLines self.old self.new turns lines a (coming self.old (I.left script.old))
+            (coming self.new (I.left script.new)) (C.faults link.old) (C.faults link.new) result printed
             × Draws (C.gives link.old) (C.gives link.new) (looks_of turns ++ a.wait.looks)
-            × Grows (C.sent link.old) (C.sent link.new) (sendings self.old.frame.session self.old.frame.number turns ++ a.sent)
+            × Grows (C.sent link.old) (C.sent link.new) (sendings self.old.frame.session self.old.frame.number
+            turns ++ a.sent)
             × Appends (O.written out.old) (O.written out.new) printed }
         ensures ready { IsReady self.new }
         ensures session { self.new.frame.session ≡ self.old.frame.session }
@@ -241,7 +260,8 @@ impl Appender {
         requires ready { IsReady self.old }
         requires session { self.old.frame.session ≡ row.now.id }
         ensures visits { (visit : Visit) × (printed : List ℕ)
-            × Visits row.now self.old self.new visit (coming self.old (I.left script.old)) (coming self.new (I.left script.new)) (C.faults link.old) (C.faults link.new) result printed
+            × Visits row.now self.old self.new visit (coming self.old (I.left script.old))
+            (coming self.new (I.left script.new)) (C.faults link.old) (C.faults link.new) result printed
             × Draws (C.gives link.old) (C.gives link.new) (looks_in visit)
             × Grows (C.sent link.old) (C.sent link.new) (sent_in row.now visit)
             × Appends (O.written out.old) (O.written out.new) printed }
@@ -281,7 +301,8 @@ pub fn append_with<P: Ports, I: Source, O: Sink>(
     out: &mut O,
 ) -> Appended
     ensures appends { (tries : List (Option (Made P.Link))) × (printed : List ℕ)
-        × AppendsLines (link_tells P.Link.gives P.Link.sent P.Link.faults) row.now looks tries (I.left script.old) (I.left script.new) result.end result.lines result.next printed
+        × AppendsLines (link_tells P.Link.gives P.Link.sent P.Link.faults) row.now looks tries (I.left script.old)
+        (I.left script.new) result.end result.lines result.next printed
         × Grows (P.did ports.old) (P.did ports.new) (steps row.now.low_port tries)
         × Appends (O.written out.old) (O.written out.new) printed }
     ensures read { result.end ≡ AppendEnd.Read → Rose (I.faults script.old) (I.faults script.new) }

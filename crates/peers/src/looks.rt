@@ -9,7 +9,7 @@ use pump_link::{Link, Looked as LinkLooked};
 
 /// What a wait for one frame came to.
 #[derive(Clone, Copy)]
-pub(crate) enum Waited {
+pub enum Waited {
     /// The last look ended a frame.
     Frame(Frame),
     /// The link showed bad bytes, has ended, or failed.
@@ -18,9 +18,10 @@ pub(crate) enum Waited {
     Used,
 }
 
-/// Looks until a frame is whole, as long as looks are left. Before the first look the link stands
-/// between two frames.
-pub(crate) fn await_frame<C: Link>(link: &mut C, left: &mut u32) -> Waited
+/// Looks until a frame is whole, as long as looks are left; each look made is taken off `left`, and nothing
+/// is sent. Before the first look the link stands between two frames. `Used` comes only where no look is
+/// left.
+pub fn await_frame<C: Link>(link: &mut C, left: &mut u32) -> Waited
     ensures wait { (looks : List Looked) × Draws (C.gives link.old) (C.gives link.new) looks
         × (left.old ≡ left.new + length looks)
         × WaitsTo looks left.new (C.faults link.old) (C.faults link.new) result }

@@ -11,7 +11,7 @@ use pump_frame::{Frame, Kind, Payload, encode};
 use pump_link::{Link, Sink, write_all};
 
 /// A frame without a payload.
-pub(crate) fn plain_frame(kind: Kind, session: u32, number: u64) -> Frame
+pub fn plain_frame(kind: Kind, session: u32, number: u64) -> Frame
     ensures { result ≡ plain_frame kind session number }
 {
     Frame {
@@ -22,8 +22,9 @@ pub(crate) fn plain_frame(kind: Kind, session: u32, number: u64) -> Frame
     }
 }
 
-/// Sends a frame, and says whether it was sent whole.
-pub(crate) fn send_frame<C: Link>(link: &mut C, frame: &Frame) -> bool
+/// Sends a frame, and says whether it was sent whole; a prefix of it was sent where not, which comes only
+/// where the link's count of faults rose.
+pub fn send_frame<C: Link>(link: &mut C, frame: &Frame) -> bool
     requires lawful { IsLawful frame.now }
     ensures sent { SendsPart (C.sent link.old) (C.sent link.new) result (spelling frame.now) }
     ensures gives { Draws (C.gives link.old) (C.gives link.new) [] }
@@ -35,8 +36,9 @@ pub(crate) fn send_frame<C: Link>(link: &mut C, frame: &Frame) -> bool
     link.send(bytes.as_slice()).is_ok()
 }
 
-/// Prints a line, and says whether it was written whole.
-pub(crate) fn print<O: Sink>(out: &mut O, line: &[u8]) -> bool
+/// Prints a line, and says whether it was written whole; a prefix of it was written where not, which comes
+/// only where the sink's count of faults rose.
+pub fn print<O: Sink>(out: &mut O, line: &[u8]) -> bool
     ensures printed { PrintsPart (O.written out.old) (O.written out.new) result line.now }
     ensures later { O.faults out.old ≤ O.faults out.new }
     ensures failed { result ≡ false → Rose (O.faults out.old) (O.faults out.new) }

@@ -85,7 +85,8 @@ impl PayloadLines {
     }
 
     fn next_byte<I: Source>(&mut self, script: &mut I) -> NextByte
-        ensures byte { IsNextByte (prepend_known self.old (I.left script.old)) (prepend_known self.new (I.left script.new)) result }
+        ensures byte { IsNextByte (prepend_known self.old (I.left script.old))
+            (prepend_known self.new (I.left script.new)) result }
         ensures ahead { length self.new ≤ 4096 }
         ensures later { I.faults script.old ≤ I.faults script.new }
         ensures failed { result ≡ NextByte.Failed → Rose (I.faults script.old) (I.faults script.new) }
@@ -106,8 +107,10 @@ impl PayloadLines {
 
     /// Sets the payload to that of the next line. After any answer but `Payload` nothing is said of it.
     pub fn next<I: Source>(&mut self, script: &mut I, payload: &mut Payload) -> Lined
-        ensures next { IsNextPayload (prepend_known self.old (I.left script.old)) (prepend_known self.new (I.left script.new)) payload.new result }
-        ensures taken { TakesAtMost 2049 (prepend_known self.old (I.left script.old)) (prepend_known self.new (I.left script.new)) }
+        ensures next { IsNextPayload (prepend_known self.old (I.left script.old))
+            (prepend_known self.new (I.left script.new)) payload.new result }
+        ensures taken { TakesAtMost 2049 (prepend_known self.old (I.left script.old))
+            (prepend_known self.new (I.left script.new)) }
         ensures ahead { length self.new ≤ 4096 }
         ensures later { I.faults script.old ≤ I.faults script.new }
         ensures failed { result ≡ Lined.Failed → Rose (I.faults script.old) (I.faults script.new) }

@@ -70,7 +70,17 @@ fn serve_frame<C: Link, D: Disk, O: Sink>(
     requires ready { IsRecvReady D.told receiver.old }
     requires row { recv_row receiver.old ≡ row.now }
     requires lawful { IsLawful frame.now }
-    ensures step { (x : Step) × TakesFrame D.told row.now frame.now receiver.old receiver.new x (record { link = C.faults link.old; now_link = C.faults link.new; out = O.faults out.old; now_out = O.faults out.new; other = D.told.count (recv_disk receiver.old); now_other = D.told.count (recv_disk receiver.new) }) result
+    ensures step { (x : Step) × TakesFrame D.told row.now frame.now receiver.old receiver.new x
+        (record {
+          link = C.faults link.old;
+          now_link = C.faults link.new;
+          out = O.faults out.old;
+          now_out = O.faults
+              out.new;
+          other = D.told.count (recv_disk receiver.old);
+          now_other = D.told.count (recv_disk receiver.new);
+        })
+        result
         × Grows (C.sent link.old) (C.sent link.new) x.sent
         × Appends (O.written out.old) (O.written out.new) x.printed }
     ensures gives { Draws (C.gives link.old) (C.gives link.new) [] }
@@ -111,7 +121,17 @@ pub fn receive_with<C: Link, D: Disk, O: Sink>(
 ) -> ReceiveEnd
     requires ready { IsRecvReady D.told receiver.old }
     requires row { recv_row receiver.old ≡ row.now }
-    ensures receives { (x : Reception) × Receives row.now (recv_size receiver.old) looks (place_of receiver.old) x (record { link = C.faults link.old; now_link = C.faults link.new; out = O.faults out.old; now_out = O.faults out.new; other = D.told.count (recv_disk receiver.old); now_other = D.told.count (recv_disk receiver.new) }) result
+    ensures receives { (x : Reception) × Receives row.now (recv_size receiver.old) looks (place_of receiver.old) x
+        (record {
+          link = C.faults link.old;
+          now_link = C.faults link.new;
+          out = O.faults out.old;
+          now_out = O.faults
+              out.new;
+          other = D.told.count (recv_disk receiver.old);
+          now_other = D.told.count (recv_disk receiver.new);
+        })
+        result
         × Draws (C.gives link.old) (C.gives link.new) (x.heard ++ x.looks)
         × Grows (C.sent link.old) (C.sent link.new) x.sent
         × Appends (O.written out.old) (O.written out.new) x.printed

@@ -33,55 +33,55 @@ fall_wrong r e claims line f = (f.0, f.1, f.2, f.3, risen_right r e f.2 f.4, λ 
 
 -- ---- counts that rise ----
 
-rise_push : (n : ℕ) (front : List Claim) (p : Claim) → RiseFrom n front → top n front ≤ p.count → RiseFrom n (front ++ p ∷ [])
+rise_push : (n : ℕ) (prefix : List Claim) (p : Claim) → RiseFrom n prefix → top n prefix ≤ p.count → RiseFrom n (prefix ++ p ∷ [])
 rise_push n [] p h low = (low, tt)
-rise_push n (q ∷ front) p h low = (h.0, rise_push q.count front p h.1 low)
+rise_push n (q ∷ prefix) p h low = (h.0, rise_push q.count prefix p h.1 low)
 
-rise_front : (n : ℕ) (front : List Claim) (p : Claim) → RiseFrom n (front ++ p ∷ []) → RiseFrom n front × (top n front ≤ p.count)
-rise_front n [] p h = (tt, h.0)
-rise_front n (q ∷ front) p h = let k = rise_front q.count front p h.1 in ((h.0, k.0), k.1)
+rise_prefix : (n : ℕ) (prefix : List Claim) (p : Claim) → RiseFrom n (prefix ++ p ∷ []) → RiseFrom n prefix × (top n prefix ≤ p.count)
+rise_prefix n [] p h = (tt, h.0)
+rise_prefix n (q ∷ prefix) p h = let k = rise_prefix q.count prefix p h.1 in ((h.0, k.0), k.1)
 
-top_push : (n : ℕ) (front : List Claim) (p : Claim) → top n (front ++ p ∷ []) ≡ p.count
+top_push : (n : ℕ) (prefix : List Claim) (p : Claim) → top n (prefix ++ p ∷ []) ≡ p.count
 top_push n [] p = refl
-top_push n (q ∷ front) p = top_push q.count front p
+top_push n (q ∷ prefix) p = top_push q.count prefix p
 
-top_most : (n m : ℕ) (front : List Claim) → n ≤ m → All (λ b. b.count ≤ m) front → top n front ≤ m
+top_most : (n m : ℕ) (prefix : List Claim) → n ≤ m → All (λ b. b.count ≤ m) prefix → top n prefix ≤ m
 top_most n m [] low all = low
-top_most n m (q ∷ front) low all = top_most q.count m front (All-head (λ b. b.count ≤ m) q front all) (All-tail (λ b. b.count ≤ m) q front all)
+top_most n m (q ∷ prefix) low all = top_most q.count m prefix (All-head (λ b. b.count ≤ m) q prefix all) (All-tail (λ b. b.count ≤ m) q prefix all)
 
 -- ---- the times meet the claims ----
 
 module _ (a : Averaging) (times : List ℕ) (pairs : List Claim) where
-  front_push : (met : ℕ) (p : Claim) → met < length pairs → p ≡ get_or pairs met p → take (met + 1) pairs ≡ take met pairs ++ p ∷ []
-  front_push met p low is = take_more pairs met p low ∙ ap (λ q. take met pairs ++ q ∷ []) (sym is)
+  prefix_push : (met : ℕ) (p : Claim) → met < length pairs → p ≡ get_or pairs met p → take (met + 1) pairs ≡ take met pairs ++ p ∷ []
+  prefix_push met p low is = take_more pairs met p low ∙ ap (λ q. take met pairs ++ q ∷ []) (sym is)
 
   rest_is : (met : ℕ) (p : Claim) → met < length pairs → p ≡ get_or pairs met p → drop met pairs ≡ p ∷ drop (met + 1) pairs
   rest_is met p low is =
       let next : suc met ≡ met + 1 = omega arith in
       drop-cons pairs met p low ∙ ap (λ q. q ∷ drop (suc met) pairs) (sym is) ∙ ap (λ k. p ∷ drop k pairs) next
 
-  waits_top : (front rest : List Claim) (n : ℕ) → top 0 front ≡ n → Waits a times n front rest
-  waits_top front [] n e = tt
-  waits_top front (q ∷ rest) n e = elim (nat_le n q.count) as (λ b. nat_le n q.count ≡ b → (n ≤ q.count) ⊎ Fails a times front q) [
+  waits_top : (prefix rest : List Claim) (n : ℕ) → top 0 prefix ≡ n → Waits a times n prefix rest
+  waits_top prefix [] n e = tt
+  waits_top prefix (q ∷ rest) n e = elim (nat_le n q.count) as (λ b. nat_le n q.count ≡ b → (n ≤ q.count) ⊎ Fails a times prefix q) [
     | true ↦ λ s. inl (leb-true n q.count s)
     | false ↦ λ s. inr (inl (let low : q.count < n = leb-false n q.count s in omega (arith, low, e)))
   ] refl
 
   pub meet_step : (met : ℕ) (p : Claim) → met < length pairs → p ≡ get_or pairs met p → p.count ≡ length times → p.average ≡ average_of a times → Meets a times (length times) pairs met → Meets a times (length times) pairs (met + 1)
   meet_step met p low is count average h =
-      let front = front_push met p low is in
+      let prefix = prefix_push met p low is in
       let most = top_most 0 (length times) (take met pairs) (omega arith) (All-weaker (IsMet a times) (λ b. b.count ≤ length times) (λ b m. m.0) (take met pairs) h.are_met) in
       let ok : IsMet a times p = (omega (arith, count), average ∙ ap (average_of a) (sym (take_all p.count times (omega (arith, count))))) in
       record {
         few = omega (arith, low);
-        rises = subst (RiseFrom 0) (sym front) (rise_push 0 (take met pairs) p h.rises (omega (arith, most, count)));
-        are_met = subst (All (IsMet a times)) (sym front) (All-push (IsMet a times) (take met pairs) p h.are_met ok);
-        waits = waits_top (take (met + 1) pairs) (drop (met + 1) pairs) (length times) (ap (top 0) front ∙ top_push 0 (take met pairs) p ∙ count);
+        rises = subst (RiseFrom 0) (sym prefix) (rise_push 0 (take met pairs) p h.rises (omega (arith, most, count)));
+        are_met = subst (All (IsMet a times)) (sym prefix) (All-push (IsMet a times) (take met pairs) p h.are_met ok);
+        waits = waits_top (take (met + 1) pairs) (drop (met + 1) pairs) (length times) (ap (top 0) prefix ∙ top_push 0 (take met pairs) p ∙ count);
       }
 
-  stops : (n : ℕ) (front : List Claim) (p : Claim) → n ≡ length times → (p.count ≡ n → p.average ≡ average_of a times → ⊥) → (n ≤ p.count) ⊎ Fails a times front p → (n + 1 ≤ p.count) ⊎ Fails a times front p
-  stops n front p is other (inr fails) = inr fails
-  stops n front p is other (inl low) = elim (cases_eq p.count n) [
+  stops : (n : ℕ) (prefix : List Claim) (p : Claim) → n ≡ length times → (p.count ≡ n → p.average ≡ average_of a times → ⊥) → (n ≤ p.count) ⊎ Fails a times prefix p → (n + 1 ≤ p.count) ⊎ Fails a times prefix p
+  stops n prefix p is other (inr fails) = inr fails
+  stops n prefix p is other (inl low) = elim (cases_eq p.count n) [
     | inl same ↦ inr (inr (omega (arith, same, is), λ e. other same (e ∙ ap (average_of a) (take_all p.count times (omega (arith, same, is))))))
     | inr apart ↦ inl (omega (arith, low, apart))
   ]
@@ -108,11 +108,11 @@ module _ (a : Averaging) (times : List ℕ) (pairs : List Claim) where
   met_on : (t : ℕ) (p : Claim) → IsMet a times p → IsMet a (times ++ t ∷ []) p
   met_on t p h = (omega (arith, h.0, length-append times (t ∷ [])), h.1 ∙ ap (average_of a) (sym (take-append-le p.count times (t ∷ []) h.0)))
 
-  waits_on : (t n : ℕ) (front rest : List Claim) → Waits a times n front rest → Waits a (times ++ t ∷ []) n front rest
-  waits_on t n front [] h = tt
-  waits_on t n front (p ∷ rest) (inl low) = inl low
-  waits_on t n front (p ∷ rest) (inr (inl fall)) = inr (inl fall)
-  waits_on t n front (p ∷ rest) (inr (inr f)) = inr (inr (omega (arith, f.0, length-append times (t ∷ [])), λ e. f.1 (e ∙ ap (average_of a) (take-append-le p.count times (t ∷ []) f.0))))
+  waits_on : (t n : ℕ) (prefix rest : List Claim) → Waits a times n prefix rest → Waits a (times ++ t ∷ []) n prefix rest
+  waits_on t n prefix [] h = tt
+  waits_on t n prefix (p ∷ rest) (inl low) = inl low
+  waits_on t n prefix (p ∷ rest) (inr (inl fall)) = inr (inl fall)
+  waits_on t n prefix (p ∷ rest) (inr (inr f)) = inr (inr (omega (arith, f.0, length-append times (t ∷ [])), λ e. f.1 (e ∙ ap (average_of a) (take-append-le p.count times (t ∷ []) f.0))))
 
   pub meet_push : (t n met : ℕ) → Meets a times n pairs met → Meets a (times ++ t ∷ []) n pairs met
   meet_push t n met h = record {
@@ -124,7 +124,7 @@ module _ (a : Averaging) (times : List ℕ) (pairs : List Claim) where
 
 -- ---- the claims of a record with an end ----
 
-snoc_split : (front : List Claim) (p : Claim) (rest before : List Claim) (c : Claim) → front ++ p ∷ rest ≡ before ++ c ∷ [] → ((front ≡ before) × (p ≡ c)) ⊎ ((more : List Claim) × (before ≡ front ++ p ∷ more))
+snoc_split : (prefix : List Claim) (p : Claim) (rest before : List Claim) (c : Claim) → prefix ++ p ∷ rest ≡ before ++ c ∷ [] → ((prefix ≡ before) × (p ≡ c)) ⊎ ((more : List Claim) × (before ≡ prefix ++ p ∷ more))
 snoc_split [] p rest [] c e = inl (refl, cc)
 snoc_split [] p rest (b ∷ bs) c e = inr (bs, cc)
 snoc_split (f ∷ fs) p rest [] c e = absurd (let l = ap length e in omega (arith, l, length-append fs (p ∷ rest)))
@@ -137,10 +137,10 @@ snoc_split (f ∷ fs) p rest (b ∷ bs) c e =
 
 -- ---- what is kept is few ----
 
-is_empty : (front : List Claim) (p q : Claim) (rest before : List Claim) (c : Claim) → front ++ p ∷ q ∷ rest ≡ before ++ c ∷ [] → front ++ p ∷ [] ≡ before → rest ≡ []
-is_empty front p q [] before c e same = refl
-is_empty front p q (x ∷ rest) before c e same =
-    absurd (let l = ap length e in let k = ap length same in omega (arith, l, k, length-append front (p ∷ q ∷ x ∷ rest), length-append front (p ∷ []), length-append before (c ∷ [])))
+is_empty : (prefix : List Claim) (p q : Claim) (rest before : List Claim) (c : Claim) → prefix ++ p ∷ q ∷ rest ≡ before ++ c ∷ [] → prefix ++ p ∷ [] ≡ before → rest ≡ []
+is_empty prefix p q [] before c e same = refl
+is_empty prefix p q (x ∷ rest) before c e same =
+    absurd (let l = ap length e in let k = ap length same in omega (arith, l, k, length-append prefix (p ∷ q ∷ x ∷ rest), length-append prefix (p ∷ []), length-append before (c ∷ [])))
 
 pub last_two : (xs : List Claim) (none : Claim) → 2 ≤ length xs
     → xs ≡ take (length xs - 2) xs ++ slice_index_or xs (length xs - 2) none ∷ slice_index_or xs (length xs - 1) none ∷ []
@@ -155,18 +155,18 @@ last_two xs none low =
 
 -- a claim more, behind a rise, that does not tell the last pair again
 pub few_push : (before : List Claim) (c : Claim) → AreFew before → (EndsLike before c → ⊥)
-    → ((front : List Claim) (p q : Claim) → before ≡ front ++ p ∷ q ∷ [] → p.count < q.count) → AreFew (before ++ c ∷ [])
-few_push before c few other rises front p q rest e = elim (snoc_split (front ++ p ∷ []) q rest before c (append_assoc front (p ∷ []) (q ∷ rest) ∙ sym e)) [
+    → ((prefix : List Claim) (p q : Claim) → before ≡ prefix ++ p ∷ q ∷ [] → p.count < q.count) → AreFew (before ++ c ∷ [])
+few_push before c few other rises prefix p q rest e = elim (snoc_split (prefix ++ p ∷ []) q rest before c (append_assoc prefix (p ∷ []) (q ∷ rest) ∙ sym e)) [
   | inl same ↦ (
-    λ alike. other (front, p, sym same.0, subst (AreAlike p) same.1 alike),
-    λ more. absurd (more (is_empty front p q rest before c (sym e) same.0)),
+    λ alike. other (prefix, p, sym same.0, subst (AreAlike p) same.1 alike),
+    λ more. absurd (more (is_empty prefix p q rest before c (sym e) same.0)),
   )
-  | inr more ↦ (let now = more.1 ∙ append_assoc front (p ∷ []) (q ∷ more.0) in ((few front p q more.0 now).0, λ is. rise more.0 now))
+  | inr more ↦ (let now = more.1 ∙ append_assoc prefix (p ∷ []) (q ∷ more.0) in ((few prefix p q more.0 now).0, λ is. rise more.0 now))
 ]
   where
-    rise : (more : List Claim) → before ≡ front ++ p ∷ q ∷ more → p.count < q.count
-    rise [] now = rises front p q now
-    rise (m ∷ more) now = (few front p q (m ∷ more) now).1 (λ none. absurd (cc))
+    rise : (more : List Claim) → before ≡ prefix ++ p ∷ q ∷ more → p.count < q.count
+    rise [] now = rises prefix p q now
+    rise (m ∷ more) now = (few prefix p q (m ∷ more) now).1 (λ none. absurd (cc))
 
 pub few_if : (pushed : Bool) (before : List Claim) (c : Claim) → AreFew before → AreFew (before ++ c ∷ []) → AreFew (if pushed then before ++ c ∷ [] else before)
 few_if true before c was now = now
@@ -176,27 +176,27 @@ module _ (r : Record) where
   abbrev ok : Claim → Type 0
   ok p = IsMet (averaging_of r.row) r.times p
 
-  front_all : (xs : List Claim) (x : Claim) → All ok (xs ++ x ∷ []) → All ok xs
-  front_all [] x h = All-nil ok
-  front_all (y ∷ xs) x h = All-cons ok y xs (All-head ok y (xs ++ x ∷ []) h) (front_all xs x (All-tail ok y (xs ++ x ∷ []) h))
+  prefix_all : (xs : List Claim) (x : Claim) → All ok (xs ++ x ∷ []) → All ok xs
+  prefix_all [] x h = All-nil ok
+  prefix_all (y ∷ xs) x h = All-cons ok y xs (All-head ok y (xs ++ x ∷ []) h) (prefix_all xs x (All-tail ok y (xs ++ x ∷ []) h))
 
   last_all : (xs : List Claim) (x : Claim) → All ok (xs ++ x ∷ []) → ok x
   last_all [] x h = All-head ok x [] h
   last_all (y ∷ xs) x h = last_all xs x (All-tail ok y (xs ++ x ∷ []) h)
 
-  pair_risen : (n : ℕ) (front : List Claim) (p q : Claim) → RiseFrom n (front ++ p ∷ q ∷ []) → p.count ≤ q.count
+  pair_risen : (n : ℕ) (prefix : List Claim) (p q : Claim) → RiseFrom n (prefix ++ p ∷ q ∷ []) → p.count ≤ q.count
   pair_risen n [] p q h = h.1.0
-  pair_risen n (f ∷ front) p q h = pair_risen f.count front p q h.1
+  pair_risen n (f ∷ prefix) p q h = pair_risen f.count prefix p q h.1
 
-  pair_all : (front : List Claim) (p q : Claim) → All ok (front ++ p ∷ q ∷ []) → ok p × ok q
+  pair_all : (prefix : List Claim) (p q : Claim) → All ok (prefix ++ p ∷ q ∷ []) → ok p × ok q
   pair_all [] p q h = (All-head ok p (q ∷ []) h, All-head ok q [] (All-tail ok p (q ∷ []) h))
-  pair_all (f ∷ front) p q h = pair_all front p q (All-tail ok f (front ++ p ∷ q ∷ []) h)
+  pair_all (f ∷ prefix) p q h = pair_all prefix p q (All-tail ok f (prefix ++ p ∷ q ∷ []) h)
 
   -- where one of the last two is wrong whatever the times are, not all are right
   settled_wrong : (pairs : List Claim) → IsSettled pairs → RiseFrom 0 pairs → All ok pairs → ⊥
-  settled_wrong pairs (front, p, q, is, low, apart) rises all =
-      let up = pair_risen 0 front p q (subst (RiseFrom 0) is rises) in
-      let met = pair_all front p q (subst (All ok) is all) in
+  settled_wrong pairs (prefix, p, q, is, low, apart) rises all =
+      let up = pair_risen 0 prefix p q (subst (RiseFrom 0) is rises) in
+      let met = pair_all prefix p q (subst (All ok) is all) in
       let same : p.count ≡ q.count = omega (arith, low, up) in
       apart (same, met.0.1 ∙ ap (λ n. average_of (averaging_of r.row) (take n r.times)) same ∙ sym met.1.1)
 
@@ -204,9 +204,9 @@ module _ (r : Record) where
   all_right : (claims pairs : List Claim) → Keeps claims pairs → RiseFrom 0 pairs → All ok pairs → AreRight r claims × All (λ b. b.count ≤ top 0 pairs) claims
   all_right [] pairs k rises all = (tt, All-nil (λ b. b.count ≤ top 0 pairs))
   all_right (c ∷ older) pairs (before, k, inl e) rises all =
-      let risen = rise_front 0 before c (subst (RiseFrom 0) e rises) in
+      let risen = rise_prefix 0 before c (subst (RiseFrom 0) e rises) in
       let all' : All ok (before ++ c ∷ []) = subst (All ok) e all in
-      let h = all_right older before k risen.0 (front_all before c all') in
+      let h = all_right older before k risen.0 (prefix_all before c all') in
       let below = All-weaker (λ b. b.count ≤ top 0 before) (λ b. b.count ≤ c.count) (λ b low. omega (arith, low, risen.1)) older h.1 in
       let last : top 0 pairs ≡ c.count = ap (top 0) e ∙ top_push 0 before c in (
         (record { rises = below; average = λ t. last_all before c all' }, h.0),
@@ -235,25 +235,25 @@ module _ (r : Record) where
       omega (arith, low, ap (top 0) e)
 
   -- one of those that are kept is wrong, and those before it are right
-  first_wrong : (claims pairs : List Claim) → Keeps claims pairs → (front : List Claim) (p : Claim) (rest : List Claim) → pairs ≡ front ++ p ∷ rest → RiseFrom 0 front → All ok front
-      → (p.count < top 0 front) ⊎ (ok p → ⊥) → has_end r ≡ true → IsFirstWrong r claims p.line
-  first_wrong [] pairs k front p rest e rises all bad ends = absurd (let l = ap length (sym e ∙ k) in omega (arith, l, length-append front (p ∷ rest)))
-  first_wrong (c ∷ older) pairs (before, k, inl took) front p rest e rises all bad ends =
-      elim (snoc_split front p rest before c (sym e ∙ took)) [
+  first_wrong : (claims pairs : List Claim) → Keeps claims pairs → (prefix : List Claim) (p : Claim) (rest : List Claim) → pairs ≡ prefix ++ p ∷ rest → RiseFrom 0 prefix → All ok prefix
+      → (p.count < top 0 prefix) ⊎ (ok p → ⊥) → has_end r ≡ true → IsFirstWrong r claims p.line
+  first_wrong [] pairs k prefix p rest e rises all bad ends = absurd (let l = ap length (sym e ∙ k) in omega (arith, l, length-append prefix (p ∷ rest)))
+  first_wrong (c ∷ older) pairs (before, k, inl took) prefix p rest e rises all bad ends =
+      elim (snoc_split prefix p rest before c (sym e ∙ took)) [
         | inl same ↦
             let risen : RiseFrom 0 before = subst (RiseFrom 0) same.0 rises in
             let met : All ok before = subst (All ok) same.0 all in
             ([], c, older, refl, (all_right older before k risen met).0, (λ right. wrong before k same.0 same.1 bad right), ap (λ (q : Claim). q.line) same.1)
         | inr more ↦
-            let w = first_wrong older before k front p more.0 more.1 rises all bad ends in
+            let w = first_wrong older before k prefix p more.0 more.1 rises all bad ends in
             (c ∷ w.0, w.1, w.2, ap (λ l. c ∷ l) w.3, w.4, w.5, w.6)
       ]
     where
-      wrong : (before : List Claim) → Keeps older before → front ≡ before → p ≡ c → (p.count < top 0 front) ⊎ (ok p → ⊥) → IsRight r c older → ⊥
+      wrong : (before : List Claim) → Keeps older before → prefix ≡ before → p ≡ c → (p.count < top 0 prefix) ⊎ (ok p → ⊥) → IsRight r c older → ⊥
       wrong before k same is (inl low) right = let most = keeps_most older before k c.count right.rises in absurd (omega (arith, most, low, ap (top 0) same, ap (λ (q : Claim). q.count) is))
       wrong before k same is (inr not) right = not (subst ok (sym is) (right.average ends))
-  first_wrong (c ∷ older) pairs (before, k, inr (kept, same)) front p rest e rises all bad ends =
-      let w = first_wrong older before k front p rest (sym kept ∙ e) rises all bad ends in
+  first_wrong (c ∷ older) pairs (before, k, inr (kept, same)) prefix p rest e rises all bad ends =
+      let w = first_wrong older before k prefix p rest (sym kept ∙ e) rises all bad ends in
       (c ∷ w.0, w.1, w.2, ap (λ l. c ∷ l) w.3, w.4, w.5, w.6)
 
   -- ---- what the times have not met ----

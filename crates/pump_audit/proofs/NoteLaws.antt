@@ -36,7 +36,7 @@ fields_are s (Refuse why n) = refl
 
 -- ---- what is read is so spelled ----
 
--- the word at the front decides
+-- the word at the prefix decides
 by_word : {A P : Type 0} (w text : List ℕ) (here later : Option A) (x : A) → cond (bytes_eq w text) here later ≡ Some x → (w ≡ text → here ≡ Some x → P) → (later ≡ Some x → P) → P
 by_word w text here later x e same other =
     elim (chosen (bytes_eq w text) here later x e) [

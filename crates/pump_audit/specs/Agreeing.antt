@@ -42,4 +42,11 @@ items_in row [] = []
 items_in row (x ∷ past) = items_in row past ++ item_in row x ∷ []
 
 abbrev pub side_of : Record → SideTold
-side_of r = record { row = r.row; opening = r.opening; place = r.place; lines = r.lines; items = items_in r.row r.looks }
+side_of r = record {
+  row = r.row;
+  opening = r.opening;
+  place = r.place;
+  lines = r.lines;
+  items = items_in r.row
+      r.looks;
+}

@@ -31,8 +31,10 @@ use Rattle.pump_audit.specs.Entries.{IsEntry, IsPlain, IsInRange}
 use Rattle.pump_audit.specs.Machine.{state_of, is_down}
 use Rattle.pump_audit.specs.Pairs.{Keeps, Fell, Meets}
 use Rattle.pump_audit.specs.Places.{is_opening, may_end}
-use Rattle.pump_audit.specs.Records.{Record, begun, is_lost, GoesOn, told_by_note, AreTold, look_of, with_look, with_note, form_of, Follows}
-use Rattle.pump_audit.specs.Verdicts.{acknowledgements, Begins, HasCause, IsMisplaced, IsBroken, IsMistold, EndHasCause, IsRightEnd}
+use Rattle.pump_audit.specs.Records.{Record, begun, is_lost, GoesOn, told_by_note, AreTold, look_of, with_look}
+use Rattle.pump_audit.specs.Records.{with_note, form_of, Follows}
+use Rattle.pump_audit.specs.Verdicts.{acknowledgements, Begins, HasCause, IsMisplaced, IsBroken, IsMistold, EndHasCause}
+use Rattle.pump_audit.specs.Verdicts.{IsRightEnd}
 
 -- one life with these looks
 abbrev pub history_in : Opening → List Look → History
@@ -44,7 +46,8 @@ owed_in row moment None = []
 owed_in row moment (Some reply) = record { moment = moment; reply = frame_of row.id reply } ∷ []
 
 -- the process stands for the life, and the comments tell all its replies but the one that is owed
-pub record LivesIn (life : Life) (owed : Option Reply) (row : SessionRow) (o : Opening) (looks : List Look) (comments : List Sent) : Type 0 where
+pub record LivesIn (life : Life) (owed : Option Reply) (row : SessionRow) (o : Opening) (looks : List Look)
+    (comments : List Sent) : Type 0 where
   pub own_row : life.row ≡ row
   pub stands : StandsAt row (state_of life) life.last (history_in o looks)
   pub lost : is_down (state_of life).phase ≡ is_lost looks
@@ -59,7 +62,8 @@ MeetsAt places.Taken row times pairs met = Meets (averaging_of row) times (lengt
 MeetsAt places.End row times pairs met = Meets (averaging_of row) times (length times + 1) pairs met
 
 -- the claims are kept, and the times
-pub record Held (kept : Claims) (window : Window) (place : Place) (row : SessionRow) (claims : List Claim) (times : List ℕ) : Type 0 where
+pub record Held (kept : Claims) (window : Window) (place : Place) (row : SessionRow) (claims : List Claim)
+    (times : List ℕ) : Type 0 where
   pub keeps : Keeps claims kept.pairs.items
   pub fell : Fell claims kept.greatest kept.fall
   pub holds : HoldsTimes window times

@@ -1,6 +1,7 @@
 -- Low's side of a record, as a list of items with the oldest first, and how two such lists compare. Item 0 is
 -- the row with what was found at the opening; the looks are the items from 1 on. Comments are no part of it.
-use Rattle.std.specs.Prelude.{◌≡◌, ◌≢◌, ◌⊎◌, ℕ, ◌+◌, ◌^◌, Bool, true, false, ◌&&◌, ◌==◌, not, if◌then◌else◌, List, [], ◌∷◌, ◌++◌, length, codes, Option, Some, None, option_map}
+use Rattle.std.specs.Prelude.{◌≡◌, ◌≢◌, ◌⊎◌, ℕ, ◌+◌, ◌^◌, Bool, true, false, ◌&&◌, ◌==◌, not, if◌then◌else◌, List, []}
+use Rattle.std.specs.Prelude.{◌∷◌, ◌++◌, length, codes, Option, Some, None, option_map}
 use Rattle.std.specs.Str.{bytes_eq}
 use Rattle.pump_frame.specs.Spellings.{spelling}
 use Rattle.pump_frame.specs.declared.row.SessionRow.{SessionRow}
@@ -76,12 +77,22 @@ lines_in None = 0
 lines_in (Some s) = s.lines
 
 abbrev pub begun : SessionRow → ℕ → Bool → SideTold
-begun row next is_held = record { row = row; opening = record { count = next; is_held = is_held }; place = places.Opening; lines = 1; items = [] }
+begun row next is_held = record {
+  row = row;
+  opening = record { count = next; is_held = is_held };
+  place = places.Opening;
+  lines = 1;
+  items = [];
+}
 
 -- the side with one more line, behind which it stands there
 abbrev pub with_entry : SideTold → Entry → Place → SideTold
 with_entry s (entries.Look l) place = record s { place = place; lines = s.lines + 1; items = s.items ++ item_of l ∷ [] }
-with_entry s (entries.Coarse session) place = record s { row = record s.row { coarse = true }; place = place; lines = s.lines + 1 }
+with_entry s (entries.Coarse session) place = record s {
+  row = record s.row { coarse = true };
+  place = place;
+  lines = s.lines + 1;
+}
 with_entry s (entries.Opening row next is_held) place = record s { place = place; lines = s.lines + 1 }
 with_entry s (entries.Comment note) place = record s { place = place; lines = s.lines + 1 }
 
@@ -94,7 +105,8 @@ Lists (Some s) e q = (f : Form) × (behind_line (form_of s) e ≡ Some f) × (q 
 -- the lines, without their ends and the newest first, are those of this side
 abbrev pub SideOf : List (List ℕ) → Option SideTold → Type 0
 SideOf [] s = s ≡ None
-SideOf (text ∷ before) s = (was : Option SideTold) × SideOf before was × IsText text × (e : Entry) × IsEntry e text × (q : SideTold) × Lists was e q × (s ≡ Some q)
+SideOf (text ∷ before) s = (was : Option SideTold) × SideOf before was × IsText text × (e : Entry) × IsEntry e text
+    × (q : SideTold) × Lists was e q × (s ≡ Some q)
 
 abbrev pub joined : List (List ℕ) → List ℕ → List ℕ
 joined [] rest = rest
@@ -182,7 +194,8 @@ AreAlike (x ∷ xs) [] = ⊥
 -- the items of this number, from 0 on, are the first that differ, in this part; or one list ends there
 abbrev pub DifferAt : List ItemTold → List ItemTold → ℕ → What → Type 0
 DifferAt [] [] at w = ⊥
-DifferAt (x ∷ xs) (y ∷ ys) at w = ((at ≡ 0) × (unlike x y ≡ Some w)) ⊎ ((unlike x y ≡ None) × (next : ℕ) × (at ≡ next + 1) × DifferAt xs ys next w)
+DifferAt (x ∷ xs) (y ∷ ys) at w = ((at ≡ 0) × (unlike x y ≡ Some w)) ⊎ ((unlike x y ≡ None) × (next : ℕ)
+    × (at ≡ next + 1) × DifferAt xs ys next w)
 DifferAt [] (y ∷ ys) at w = (at ≡ 0) × (w ≡ what.Length)
 DifferAt (x ∷ xs) [] at w = (at ≡ 0) × (w ≡ what.Length)
 

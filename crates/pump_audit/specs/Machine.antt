@@ -1,6 +1,7 @@
 -- The low process of a record's life as a machine: which feedback a look's line tells it, and whether the
 -- look goes on with the life. It serves private clauses and proofs alone.
-use Rattle.std.specs.Prelude.{◌≡◌, ℕ, ◌+◌, ◌^◌, ◌≤◌, [], Bool, true, false, ◌&&◌, ◌||◌, not, ◌==◌, if◌then◌else◌, Option, Some, None, option_map}
+use Rattle.std.specs.Prelude.{◌≡◌, ℕ, ◌+◌, ◌^◌, ◌≤◌, [], Bool, true, false, ◌&&◌, ◌||◌, not, ◌==◌, if◌then◌else◌}
+use Rattle.std.specs.Prelude.{Option, Some, None, option_map}
 use Rattle.pump_frame.specs.Averages.{averaging_of, average_of}
 use Rattle.pump_frame.specs.declared.frame.Frame.{Frame}
 use Rattle.pump_frame.specs.declared.row.SessionRow.{SessionRow}
@@ -41,7 +42,8 @@ is_down _ = false
 
 -- the pair that was read, if this is one that may come down
 abbrev pub pair_in : SessionRow → ToldFeedback → Option Seen
-pair_in row (Pair count average) = if tells_level row (Pair count average) then Some (record { count = count; average = average }) else None
+pair_in row (Pair count average) = if tells_level row (Pair count average) then Some
+    (record { count = count; average = average }) else None
 pair_in row Quiet = None
 pair_in row Full = None
 
@@ -53,7 +55,8 @@ of_nothing (Pair count average) = None
 
 -- a release tells that no time was published
 abbrev pub of_release : SessionRow → ℕ → ℕ → Option Feedback
-of_release row count average = if count == 0 && average == average_of (averaging_of row) [] then Some feedbacks.Released else None
+of_release row count average = if count == 0 && average == average_of (averaging_of row) [] then Some feedbacks.Released
+    else None
 
 -- .. of a look that offers a message, whose acknowledgement is owed or not
 abbrev pub of_offer : SessionRow → Option ℕ → ToldFeedback → Option Feedback
@@ -64,7 +67,8 @@ of_offer row None (Pair count average) = of_release row count average
 
 -- .. of a look that may take what it is offered
 abbrev pub of_arrival : SessionRow → State → Arrival → ToldFeedback → Option Feedback
-of_arrival row s (Came f) t = if is_repeat row s.next s.greeted f then option_map feedbacks.Repeat (pair_in row t) else of_nothing t
+of_arrival row s (Came f) t = if is_repeat row s.next s.greeted f then option_map feedbacks.Repeat (pair_in row t) else
+    of_nothing t
 of_arrival row s Nothing t = of_nothing t
 of_arrival row s Bad t = of_nothing t
 of_arrival row s Gone t = of_nothing t
@@ -102,7 +106,8 @@ begins_store row s a _ = false
 
 -- where the next message is stored, or fails to be
 abbrev pub stored : State → ℕ → Bool → State
-stored s number is_fault = if is_fault then record s { phase = phases.Down } else record s { next = s.next + 1; phase = phases.Passing (Some number) }
+stored s number is_fault = if is_fault then record s { phase = phases.Down } else record s
+    { next = s.next + 1; phase = phases.Passing (Some number) }
 
 -- where it is answered at once
 abbrev pub answered : SessionRow → State → Frame → State

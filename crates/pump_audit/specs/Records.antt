@@ -1,6 +1,7 @@
 -- What the lines of a record tell so far, and what may come next. Looks and claims stand with the newest
 -- first, comments and times with the oldest.
-use Rattle.std.specs.Prelude.{◌≡◌, ℕ, ◌+◌, ◌≤◌, Bool, true, false, ◌&&◌, ◌==◌, List, [], ◌∷◌, ◌++◌, Option, Some, None, option_map, is_some, slice_index}
+use Rattle.std.specs.Prelude.{◌≡◌, ℕ, ◌+◌, ◌≤◌, Bool, true, false, ◌&&◌, ◌==◌, List, [], ◌∷◌, ◌++◌, Option, Some, None}
+use Rattle.std.specs.Prelude.{option_map, is_some, slice_index}
 use Rattle.pump_frame.specs.Averages.{averaging_of, average_of}
 use Rattle.pump_frame.specs.declared.frame.Frame.{Frame}
 use Rattle.pump_frame.specs.declared.frame.Kind.{Kind}
@@ -159,7 +160,11 @@ claims_of (Repeat seen) line = record { count = seen.count; average = seen.avera
 claims_of _ line = []
 
 abbrev pub with_look : Record → Look → Record
-with_look r x = record (with_line r places.Looks) { looks = x ∷ r.looks; claims = claims_of x.feedback (r.lines + 1) ++ r.claims }
+with_look r x = record (with_line r places.Looks) {
+  looks = x ∷ r.looks;
+  claims = claims_of x.feedback
+      (r.lines + 1) ++ r.claims;
+}
 
 abbrev pub with_note : Record → Note → Record
 with_note r (notes.Low session moment reply) =

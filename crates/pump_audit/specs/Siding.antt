@@ -1,5 +1,6 @@
 -- What the code's side of a record stands for. It serves private clauses and proofs alone.
-use Rattle.std.specs.Prelude.{◌≡◌, ℕ, ◌+◌, Bool, true, false, ◌&&◌, ◌==◌, if◌then◌else◌, List, [], ◌∷◌, ◌++◌, length, map, Option, Some, None}
+use Rattle.std.specs.Prelude.{◌≡◌, ℕ, ◌+◌, Bool, true, false, ◌&&◌, ◌==◌, if◌then◌else◌, List, [], ◌∷◌, ◌++◌, length}
+use Rattle.std.specs.Prelude.{map, Option, Some, None}
 use Rattle.std.specs.Str.{bytes_eq}
 use Rattle.pump_frame.specs.declared.row.SessionRow.{SessionRow}
 use Rattle.pump_audit.specs.declared.entry.Entry.{Entry}
@@ -12,7 +13,8 @@ use Rattle.pump_audit.specs.declared.side.Matching.{Matching}
 use Rattle.pump_audit.specs.declared.side.Opened.{Opened}
 use Rattle.pump_audit.specs.declared.side.Side.{Side}
 use Rattle.pump_audit.specs.declared.compared.What.{What}
-use Rattle.pump_audit.specs.Comparing.{ItemTold, SideTold, DifferAt, unlike, Lists, form_in, same_bool, AreSide, BeginsSide, BreaksAt}
+use Rattle.pump_audit.specs.Comparing.{ItemTold, SideTold, DifferAt, unlike, Lists, form_in, same_bool, AreSide}
+use Rattle.pump_audit.specs.Comparing.{BeginsSide, BreaksAt}
 use Rattle.pump_audit.specs.Entries.{IsEntry, IsPlain}
 use Rattle.pump_audit.specs.Places.{behind}
 
@@ -26,8 +28,8 @@ AlikeSoFar (u ∷ us) [] = Unit {0}
 AlikeSoFar [] (x ∷ xs) = ⊥
 AlikeSoFar (u ∷ us) (x ∷ xs) = (unlike u x ≡ None) × AlikeSoFar us xs
 
--- so many looks are alike with those of us in their places, and no other came; or the next ones differ in this part, whatever
--- comes behind
+-- so many looks are alike with those of us in their places, and no other came; or the next ones differ in this part,
+-- whatever comes behind
 abbrev pub MatchesTo : List ItemTold → ℕ → Option What → List ItemTold → Type 0
 MatchesTo us alike None xs = AlikeSoFar us xs × (alike ≡ length xs)
 MatchesTo us alike (Some w) xs = (rest : List ItemTold) → DifferAt us (xs ++ rest) alike w
@@ -62,11 +64,13 @@ IsNone s text = (e : Entry) → IsEntry e text → behind (form_in s) e ≡ None
 -- the text begins a side, or is no first line of one
 abbrev pub BeginsAs : Option (List ItemTold) → List ℕ → Option Side → Type 0
 BeginsAs first text None = IsNone None text
-BeginsAs first text (Some v) = (e : Entry) × IsEntry e text × (q : SideTold) × Lists None e q × Stands first v q × (q.lines ≡ 1)
+BeginsAs first text (Some v) = (e : Entry) × IsEntry e text × (q : SideTold) × Lists None e q × Stands first v q
+    × (q.lines ≡ 1)
 
 -- the side goes on with the text, or it is no line of one
 abbrev pub GoesOnBy : Option (List ItemTold) → SideTold → List ℕ → Side → Bool → Type 0
-GoesOnBy first s text new true = (e : Entry) × IsEntry e text × (q : SideTold) × Lists (Some s) e q × Stands first new q × (q.lines ≡ s.lines + 1)
+GoesOnBy first s text new true = (e : Entry) × IsEntry e text × (q : SideTold) × Lists (Some s) e q × Stands first new q
+    × (q.lines ≡ s.lines + 1)
 GoesOnBy first s text new false = IsNone (Some s) text
 
 -- the frame of a look is lawful
@@ -89,7 +93,8 @@ has_same_opening v w = has_same_row v.row w.row && v.next == w.next && same_bool
 -- ---- a stream ----
 
 -- the side stands for what came of these bytes behind so many lines, and this is still to come
-pub record SideGoes (first : Option (List ItemTold)) (is_first : Bool) (before : ℕ) (bytes : List ℕ) (v : Side) (lines : ℕ) (to_come : Option (List ℕ)) : Type 0 where
+pub record SideGoes (first : Option (List ItemTold)) (is_first : Bool) (before : ℕ) (bytes : List ℕ) (v : Side)
+    (lines : ℕ) (to_come : Option (List ℕ)) : Type 0 where
   pub so_far : SideTold
   pub rest : List ℕ
   pub stands : Stands first v so_far
@@ -98,7 +103,8 @@ pub record SideGoes (first : Option (List ItemTold)) (is_first : Bool) (before :
   pub number : lines ≡ before + so_far.lines
 
 -- the side came to its end
-pub record SideEnds (first : Option (List ItemTold)) (is_first : Bool) (before : ℕ) (bytes : List ℕ) (v : Side) (lines : ℕ) (to_come : Option (List ℕ)) : Type 0 where
+pub record SideEnds (first : Option (List ItemTold)) (is_first : Bool) (before : ℕ) (bytes : List ℕ) (v : Side)
+    (lines : ℕ) (to_come : Option (List ℕ)) : Type 0 where
   pub side : SideTold
   pub left : List ℕ
   pub stands : Stands first v side

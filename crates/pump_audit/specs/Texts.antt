@@ -39,9 +39,11 @@ IsAhead old new held ahead.Failed = Keeps old new
 
 -- what of the bytes held joins a text: they have its end, or no end, or more than fits
 abbrev pub IsGathered : List ℕ → List ℕ → List ℕ → List ℕ → Gathered → Type 0
-IsGathered old new text more gathered.End = (piece : List ℕ) × IsUnended piece × (old ≡ piece ++ 10 ∷ new) × (more ≡ text ++ piece) × (length more ≤ longest)
+IsGathered old new text more gathered.End = (piece : List ℕ) × IsUnended piece × (old ≡ piece ++ 10 ∷ new)
+    × (more ≡ text ++ piece) × (length more ≤ longest)
 IsGathered old new text more gathered.More = IsUnended old × (new ≡ []) × (more ≡ text ++ old) × (length more ≤ longest)
-IsGathered old new text more gathered.Long = (piece rest : List ℕ) × IsUnended piece × (old ≡ piece ++ rest) × (longest < length text + length piece)
+IsGathered old new text more gathered.Long = (piece rest : List ℕ) × IsUnended piece × (old ≡ piece ++ rest)
+    × (longest < length text + length piece)
 
 -- what comes at the end of a stream, behind this text
 abbrev pub IsTextAtEnd : List ℕ → Texted → Type 0

@@ -6,7 +6,8 @@
 --   5  the numbers at the end are wrong
 -- The first line with one of the causes 1 to 3 counts, and on it the least cause; where there is none, the
 -- first line with cause 4, and then cause 5. The end of the bytes stands in the line behind the last.
-use Rattle.std.specs.Prelude.{◌≡◌, ◌≢◌, ◌⊎◌, ℕ, ◌+◌, ◌^◌, ◌<◌, ◌≤◌, Bool, true, false, List, [], ◌∷◌, ◌++◌, length, count_by, Option, Some, None, is_some}
+use Rattle.std.specs.Prelude.{◌≡◌, ◌≢◌, ◌⊎◌, ℕ, ◌+◌, ◌^◌, ◌<◌, ◌≤◌, Bool, true, false, List, [], ◌∷◌, ◌++◌, length}
+use Rattle.std.specs.Prelude.{count_by, Option, Some, None, is_some}
 use Rattle.pump_frame.specs.declared.frame.Kind.{Kind}
 use Rattle.pump_frame.specs.declared.frame.Kind.TheVariants.{Ack}
 use Rattle.pump_core.specs.declared.feedback.Feedback.{Feedback}
@@ -19,7 +20,8 @@ use Rattle.pump_audit.specs.declared.verdict.Verdict.TheVariants.{Yes, No}
 use Rattle.pump_audit.specs.Claims.{has_end, AreRight, IsFirstWrong}
 use Rattle.pump_audit.specs.Entries.{IsEntry}
 use Rattle.pump_audit.specs.Places.{behind, may_end}
-use Rattle.pump_audit.specs.Records.{Record, form_of, form_in, lines_in, history_of, GoesOn, told_by, AreTold, Follows, Continues}
+use Rattle.pump_audit.specs.Records.{Record, form_of, form_in, lines_in, history_of, GoesOn, told_by, AreTold, Follows}
+use Rattle.pump_audit.specs.Records.{Continues}
 use Rattle.pump_audit.specs.Texts.{IsText, IsCut as IsCutOff}
 
 -- ---- the lines that are right ----
@@ -27,7 +29,8 @@ use Rattle.pump_audit.specs.Texts.{IsText, IsCut as IsCutOff}
 -- the lines, without their ends, are those of this record, each with none of the causes 1 to 3
 abbrev pub RecordOf : List (List ℕ) → Option Record → Type 0
 RecordOf [] r = r ≡ None
-RecordOf (text ∷ before) r = (was : Option Record) × RecordOf before was × IsText text × (e : Entry) × IsEntry e text × (q : Record) × Follows was e q × (r ≡ Some q)
+RecordOf (text ∷ before) r = (was : Option Record) × RecordOf before was × IsText text × (e : Entry) × IsEntry e text
+    × (q : Record) × Follows was e q × (r ≡ Some q)
 
 -- the bytes of these lines, and then the rest
 abbrev pub joined : List (List ℕ) → List ℕ → List ℕ
@@ -75,13 +78,15 @@ IsUncommented None = ⊥
 IsUncommented (Some r) = AreTold r [] → ⊥
 
 abbrev pub EndHasCause : Option Record → ℕ → Type 0
-EndHasCause r cause = ((cause ≡ 1) × (may_end (form_in r) ≡ false)) ⊎ ((cause ≡ 3) × (may_end (form_in r) ≡ true) × IsUncommented r)
+EndHasCause r cause = ((cause ≡ 1) × (may_end (form_in r) ≡ false)) ⊎ ((cause ≡ 3) × (may_end (form_in r) ≡ true)
+    × IsUncommented r)
 
 -- what is left behind a record begins with a line that has this cause: bytes that begin with no line and a
 -- line of number 2^32 have the first, whatever else is wrong with that line
 abbrev pub RestHasCause : Option Record → List ℕ → ℕ → Type 0
 RestHasCause r rest cause =
-    ((text more : List ℕ) × IsText text × (rest ≡ text ++ 10 ∷ more) × (lines_in r + 1 < 2 ^ 32) × HasCause r text cause)
+    ((text more : List ℕ) × IsText text × (rest ≡ text ++ 10 ∷ more) × (lines_in r + 1 < 2 ^ 32)
+    × HasCause r text cause)
     ⊎ ((cause ≡ 1) × IsCutOff rest)
     ⊎ ((cause ≡ 1) × (rest ≢ []) × (lines_in r + 1 ≡ 2 ^ 32))
     ⊎ ((rest ≡ []) × EndHasCause r cause)
@@ -109,7 +114,8 @@ pub record IsRightEnd (r : Record) : Type 0 where
 -- the lines, without their ends, are those of this record, each with none of the causes 1 and 2
 abbrev pub LinesOf : List (List ℕ) → Option Record → Type 0
 LinesOf [] r = r ≡ None
-LinesOf (text ∷ before) r = (was : Option Record) × LinesOf before was × IsText text × (e : Entry) × IsEntry e text × (q : Record) × Continues was e q × (r ≡ Some q)
+LinesOf (text ∷ before) r = (was : Option Record) × LinesOf before was × IsText text × (e : Entry) × IsEntry e text
+    × (q : Record) × Continues was e q × (r ≡ Some q)
 
 -- the bytes are this record, to its end, with none of the causes 1 and 2
 pub record IsLife (bytes : List ℕ) (r : Record) : Type 0 where
@@ -140,4 +146,5 @@ IsVerdict bytes (Yes looks acks times) = (r : Record) × IsClean bytes r
 IsVerdict bytes (No line cause) =
     ((r : Option Record) × (rest : List ℕ) × Begins bytes r rest × RestHasCause r rest cause × (line ≡ lines_in r + 1))
     ⊎ ((r : Record) × IsWhole bytes r × (cause ≡ 4) × IsFirstWrong r r.claims line)
-    ⊎ ((r : Record) × IsWhole bytes r × AreRight r r.claims × (cause ≡ 5) × (has_end r ≡ true) × (IsRightEnd r → ⊥) × (line ≡ r.lines))
+    ⊎ ((r : Record) × IsWhole bytes r × AreRight r r.claims × (cause ≡ 5) × (has_end r ≡ true) × (IsRightEnd r → ⊥)
+    × (line ≡ r.lines))

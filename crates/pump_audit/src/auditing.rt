@@ -1,5 +1,6 @@
 // Checking a record, line by line.
-ghost use Rattle.std.specs.Prelude.{◌≡◌, ℕ, ◌+◌, ◌-◌, ◌^◌, ◌<◌, ◌≤◌, true, false, is_some, Option, None, Some, IfOk, IfNone, MatchOption, MatchBool};
+ghost use Rattle.std.specs.Prelude.{◌≡◌, ℕ, ◌+◌, ◌-◌, ◌^◌, ◌<◌, ◌≤◌, true, false, is_some, Option, None, Some, IfOk};
+ghost use Rattle.std.specs.Prelude.{IfNone, MatchOption, MatchBool};
 ghost use Rattle.pump_frame.specs.Rows.{IsLawfulRow};
 ghost use Rattle.pump_core.specs.ReplyFrames.{frame_of};
 ghost use Rattle.script_reader.specs.Lawful.{IsLawfulFeedback};
@@ -94,8 +95,10 @@ impl Audit {
 
     // Whether this is the comment of the reply that is owed.
     fn is_owed(&self, session: u32, moment: u64, reply: &Reply) -> bool
-        ensures yes { result ≡ true → self.now.owed ≡ Some reply.now × session ≡ self.now.life.row.id × moment ≡ self.now.life.last }
-        ensures no { result ≡ false → self.now.owed ≡ Some reply.now → session ≡ self.now.life.row.id → moment ≡ self.now.life.last → ⊥ }
+        ensures yes { result ≡ true → self.now.owed ≡ Some reply.now × session ≡ self.now.life.row.id
+            × moment ≡ self.now.life.last }
+        ensures no { result ≡ false → self.now.owed ≡ Some reply.now → session ≡ self.now.life.row.id
+            → moment ≡ self.now.life.last → ⊥ }
     {
         match &self.owed {
             Some(owed) => owed == reply && session == self.life.row.id && moment == self.life.last,
@@ -246,8 +249,12 @@ impl Audit {
 
     // Whether the numbers at the end are right.
     fn ends_right(&self) -> bool
-        ensures yes { result ≡ true → (self.now.removed ≤ self.now.taken) × (self.now.taken ≤ self.now.accepted) × (self.now.accepted ≤ self.now.removed + self.now.life.row.capacity) × (self.now.accepted ≡ self.now.life.next) }
-        ensures no { result ≡ false → self.now.removed ≤ self.now.taken → self.now.taken ≤ self.now.accepted → self.now.accepted ≤ self.now.removed + self.now.life.row.capacity → self.now.accepted ≡ self.now.life.next → ⊥ }
+        ensures yes { result ≡ true → (self.now.removed ≤ self.now.taken) × (self.now.taken ≤ self.now.accepted)
+            × (self.now.accepted ≤ self.now.removed + self.now.life.row.capacity)
+            × (self.now.accepted ≡ self.now.life.next) }
+        ensures no { result ≡ false → self.now.removed ≤ self.now.taken → self.now.taken ≤ self.now.accepted
+            → self.now.accepted ≤ self.now.removed + self.now.life.row.capacity → self.now.accepted ≡ self.now.life.next
+            → ⊥ }
     {
         if self.taken < self.removed || self.accepted < self.taken {
             return false;
@@ -258,7 +265,8 @@ impl Audit {
 
     // Whether there are numbers at the end, and they are wrong.
     fn ends_wrong(&self) -> bool
-        ensures { (r : Record) → Audits self.now r → MatchBool result ((has_end r ≡ true) × (IsRightEnd r → ⊥)) (has_end r ≡ true → IsRightEnd r) }
+        ensures { (r : Record) → Audits self.now r → MatchBool result ((has_end r ≡ true)
+            × (IsRightEnd r → ⊥)) (has_end r ≡ true → IsRightEnd r) }
     {
         if !self.place.is_end() {
             return false;
@@ -268,7 +276,8 @@ impl Audit {
 
     // The line of the first claim that is wrong.
     fn wrong_claim(&self) -> Option<u32>
-        ensures { (r : Record) → Audits self.now r → MatchOption result (AreRight r r.claims) (λ line. IsFirstWrong r r.claims line) }
+        ensures { (r : Record) → Audits self.now r
+            → MatchOption result (AreRight r r.claims) (λ line. IsFirstWrong r r.claims line) }
     {
         if self.place.is_end() {
             self.claims.unmet()

@@ -43,7 +43,8 @@ fn follow<I: Source>(
     room: &mut Room,
     tape: &mut I,
 ) -> Result<Verdict, AuditFault>
-    ensures verdict { (bytes : List ℕ) → Reads bytes audit (prepend_known texts.old (I.left tape.old)) → IfOk result (IsVerdict bytes) }
+    ensures verdict { (bytes : List ℕ) → Reads bytes audit (prepend_known texts.old (I.left tape.old))
+        → IfOk result (IsVerdict bytes) }
     ensures read { result ≡ Err AuditFault.Read → Rose (I.faults tape.old) (I.faults tape.new) }
     ensures later { I.faults tape.old ≤ I.faults tape.new }
 {

@@ -48,8 +48,10 @@ impl Both {
         is_first: bool,
         tape: &mut I,
     ) -> Result<Option<Side>, AuditFault>
-        ensures side { (first : Option (List ItemTold)) (bytes : List ℕ) (before : ℕ) → SideGoes first is_first before bytes side self.old.lines (prepend_known self.old.texts (I.left tape.old))
-            → IfOk result (λ o. SideComes first is_first before bytes o self.new.lines (prepend_known self.new.texts (I.left tape.new))) }
+        ensures side { (first : Option (List ItemTold)) (bytes : List ℕ) (before : ℕ)
+            → SideGoes first is_first before bytes side self.old.lines (prepend_known self.old.texts (I.left tape.old))
+            → IfOk result (λ o. SideComes first is_first before bytes o self.new.lines
+            (prepend_known self.new.texts (I.left tape.new))) }
         ensures read { result ≡ Err AuditFault.Read → Rose (I.faults tape.old) (I.faults tape.new) }
         ensures later { I.faults tape.old ≤ I.faults tape.new }
     {
@@ -83,8 +85,10 @@ impl Both {
         is_first: bool,
         tape: &mut I,
     ) -> Result<Option<Side>, AuditFault>
-        ensures side { (first : Option (List ItemTold)) (bytes : List ℕ) → LooksTell first looks [] → prepend_known self.old.texts (I.left tape.old) ≡ Some bytes
-            → IfOk result (λ o. SideComes first is_first self.old.lines bytes o self.new.lines (prepend_known self.new.texts (I.left tape.new))) }
+        ensures side { (first : Option (List ItemTold)) (bytes : List ℕ) → LooksTell first looks []
+            → prepend_known self.old.texts (I.left tape.old) ≡ Some bytes
+            → IfOk result (λ o. SideComes first is_first self.old.lines bytes o self.new.lines
+            (prepend_known self.new.texts (I.left tape.new))) }
         ensures read { result ≡ Err AuditFault.Read → Rose (I.faults tape.old) (I.faults tape.new) }
         ensures later { I.faults tape.old ≤ I.faults tape.new }
     {

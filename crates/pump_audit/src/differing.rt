@@ -1,11 +1,14 @@
 // How two sides differ.
-ghost use Rattle.std.specs.Prelude.{◌≡◌, ◌+◌, ◌^◌, ◌<◌, true, false, ◌&&◌, List, [], ◌∷◌, ◌++◌, Option, None, Some, length, OnOk, MatchOption, map};
+ghost use Rattle.std.specs.Prelude.{◌≡◌, ◌+◌, ◌^◌, ◌<◌, true, false, ◌&&◌, List, [], ◌∷◌, ◌++◌, Option, None, Some};
+ghost use Rattle.std.specs.Prelude.{length, OnOk, MatchOption, map};
 ghost use Rattle.std.specs.Str.{bytes_eq};
 ghost use Rattle.pump_frame.specs.Frames.{IsLawful};
 ghost use Rattle.pump_frame.specs.Spellings.{spelling};
-ghost use Rattle.pump_audit.specs.Comparing.{ItemTold, SideTold, SidesAre, AreAlike, DifferAt, item_of, offered_bytes, same_told, unlike};
+ghost use Rattle.pump_audit.specs.Comparing.{ItemTold, SideTold, SidesAre, AreAlike, DifferAt, item_of, offered_bytes};
+ghost use Rattle.pump_audit.specs.Comparing.{same_told, unlike};
 ghost use Rattle.pump_audit.specs.Entries.{IsPlain};
-ghost use Rattle.pump_audit.specs.Siding.{tells, LooksTell, Matches, Opens, Stands, has_same_numbers, has_same_row, has_same_opening};
+ghost use Rattle.pump_audit.specs.Siding.{tells, LooksTell, Matches, Opens, Stands, has_same_numbers, has_same_row};
+ghost use Rattle.pump_audit.specs.Siding.{has_same_opening};
 
 use crate::compared::{Compared, What};
 use crate::entry::{LookLine, Offer};
@@ -127,7 +130,8 @@ impl Looks {
     /// One more look.
     pub fn add(&mut self, alloc: Global, line: &LookLine) -> Result<(), OutOfMemory>
         requires { IsPlain line.now }
-        ensures { OnOk result ((first : Option (List ItemTold)) (xs : List ItemTold) → LooksTell first self.old xs → LooksTell first self.new (xs ++ item_of line.now ∷ [])) }
+        ensures { OnOk result ((first : Option (List ItemTold)) (xs : List ItemTold) → LooksTell first self.old xs
+            → LooksTell first self.new (xs ++ item_of line.now ∷ [])) }
     {
         match self {
             Looks::Kept(items) => items.push(item(alloc, line)?)?,

@@ -1,6 +1,7 @@
 // Which line may stand where in a record.
 ghost use Rattle.std.specs.Prelude.{◌≡◌};
-ghost use Rattle.pump_audit.specs.Places.{at_place, behind_note, behind_line, takes_looks, takes_times, ends_at, has_end_at};
+ghost use Rattle.pump_audit.specs.Places.{at_place, behind_note, behind_line, takes_looks, takes_times, ends_at};
+ghost use Rattle.pump_audit.specs.Places.{has_end_at};
 
 use crate::entry::{Entry, Note};
 

@@ -23,10 +23,12 @@ pub fn clean_records_tell_all_replies()
 /// the first so many, and of its numbers none is greater than it may be: no more are removed than taken, no
 /// more taken than accepted, and no more accepted than removed and places.
 pub fn clean_records_keep_their_numbers()
-    ensures averages { (bytes : List ℕ) (r : Record) → IsClean bytes r → has_end r ≡ true → All (IsAverage (shape_of_row r.row) r.times) (map pair_of r.claims) }
+    ensures averages { (bytes : List ℕ) (r : Record) → IsClean bytes r → has_end r ≡ true
+        → All (IsAverage (shape_of_row r.row) r.times) (map pair_of r.claims) }
     ensures removed { (bytes : List ℕ) (r : Record) → IsClean bytes r → has_end r ≡ true → r.removed ≤ r.taken }
     ensures taken { (bytes : List ℕ) (r : Record) → IsClean bytes r → has_end r ≡ true → r.taken ≤ r.accepted }
-    ensures room { (bytes : List ℕ) (r : Record) → IsClean bytes r → has_end r ≡ true → r.accepted ≤ r.removed + r.row.capacity }
+    ensures room { (bytes : List ℕ) (r : Record) → IsClean bytes r → has_end r ≡ true
+        → r.accepted ≤ r.removed + r.row.capacity }
 {}
 
 /// Bytes have one verdict.
@@ -36,13 +38,15 @@ pub fn verdicts_are_one()
 
 /// Bytes of fewer than 2^32 lines compare in one way.
 pub fn comparisons_are_one()
-    ensures { (bytes : List ℕ) (v w : Compared) → line_ends bytes < 2 ^ 32 → IsCompared bytes v → IsCompared bytes w → v ≡ w }
+    ensures { (bytes : List ℕ) (v w : Compared) → line_ends bytes < 2 ^ 32 → IsCompared bytes v → IsCompared bytes w
+        → v ≡ w }
 {}
 
 /// Two records without the causes 1 and 2, with the line between them, are the pair of their sides. A whole record is
 /// such a record.
 pub fn records_are_their_sides()
-    ensures pair { (xs ys : List ℕ) (r q : Record) → IsLife xs r → IsLife ys q → ArePair (xs ++ (separator ++ 10 ∷ ys)) (side_of r) (side_of q) }
+    ensures pair { (xs ys : List ℕ) (r q : Record) → IsLife xs r → IsLife ys q
+        → ArePair (xs ++ (separator ++ 10 ∷ ys)) (side_of r) (side_of q) }
     ensures whole { (bytes : List ℕ) (r : Record) → IsWhole bytes r → IsLife bytes r }
 {}
 
@@ -54,6 +58,9 @@ pub fn pairs_are_one()
 /// Two records without the causes 1 and 2 whose sides agree have the same replies, at the same moments. Two clean
 /// records that are found to agree have the same comments.
 pub fn records_that_agree_reply_alike()
-    ensures replies { (xs ys : List ℕ) (r q : Record) (items : ℕ) → IsLife xs r → IsLife ys q → SidesAre (side_of r) (side_of q) (Agree items) → (ts us : List Sent) → LowReplies r.row (history_of r) ts → LowReplies q.row (history_of q) us → ts ≡ us }
-    ensures comments { (xs ys : List ℕ) (r q : Record) (items : ℕ) → IsClean xs r → IsClean ys q → IsCompared (xs ++ (separator ++ 10 ∷ ys)) (Agree items) → r.comments ≡ q.comments }
+    ensures replies { (xs ys : List ℕ) (r q : Record) (items : ℕ) → IsLife xs r → IsLife ys q
+        → SidesAre (side_of r) (side_of q) (Agree items) → (ts us : List Sent) → LowReplies r.row (history_of r) ts
+        → LowReplies q.row (history_of q) us → ts ≡ us }
+    ensures comments { (xs ys : List ℕ) (r q : Record) (items : ℕ) → IsClean xs r → IsClean ys q
+        → IsCompared (xs ++ (separator ++ 10 ∷ ys)) (Agree items) → r.comments ≡ q.comments }
 {}

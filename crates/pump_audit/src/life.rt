@@ -1,5 +1,6 @@
 // The low process of a record's life.
-ghost use Rattle.std.specs.Prelude.{◌≡◌, ◌+◌, ◌^◌, ◌<◌, ◌≤◌, false, ◌&&◌, ◌==◌, IsTrue, IfSome, Option, Some, None, option_map, if◌then◌else◌};
+ghost use Rattle.std.specs.Prelude.{◌≡◌, ◌+◌, ◌^◌, ◌<◌, ◌≤◌, false, ◌&&◌, ◌==◌, IsTrue, IfSome, Option, Some, None};
+ghost use Rattle.std.specs.Prelude.{option_map, if◌then◌else◌};
 ghost use Rattle.pump_frame.specs.Frames.{IsLawful};
 ghost use Rattle.pump_frame.specs.Rows.{IsLawfulRow};
 ghost use Rattle.pump_core.specs.Exchanges.{permits_frame, is_fit, is_repeat, is_next, average_told, due};
@@ -8,7 +9,8 @@ ghost use Rattle.pump_core.specs.ReplyFrames.{frame_of};
 ghost use Rattle.pump_core.specs.Step.{opened, after, taken, reply_at, reply_taken};
 ghost use Rattle.script_reader.specs.Lawful.{IsLawfulFeedback};
 ghost use Rattle.pump_audit.specs.Entries.{arrival_of, IsPlain};
-ghost use Rattle.pump_audit.specs.Machine.{Lets, state_of, pair_in, of_nothing, of_release, of_offer, of_arrival, of_look, takes_all, begins_store, IsInBounds, stored, answered};
+ghost use Rattle.pump_audit.specs.Machine.{Lets, state_of, pair_in, of_nothing, of_release, of_offer, of_arrival};
+ghost use Rattle.pump_audit.specs.Machine.{of_look, takes_all, begins_store, IsInBounds, stored, answered};
 ghost use Rattle.pump_audit.specs.Records.{look_of};
 
 use crate::entry::{LookLine, Offer, Offered};
@@ -161,7 +163,8 @@ impl Life {
     /// The feedback of the look that the line tells, if the look goes on with the life.
     pub fn feedback(&self, line: &LookLine) -> Option<Feedback>
         ensures some { IfSome result (λ f. Lets self.now.row (state_of self.now) self.now.last line.now f) }
-        ensures only { (f : Feedback) → Lets self.now.row (state_of self.now) self.now.last line.now f → result ≡ Some f }
+        ensures only { (f : Feedback) → Lets self.now.row (state_of self.now) self.now.last line.now f
+            → result ≡ Some f }
         ensures bounds { IsLawfulFeedback line.now.told → IfSome result IsInBounds }
     {
         if line.moment < self.last || !self.takes(&line.coming) {
@@ -204,7 +207,8 @@ impl Life {
 
     // The feedback that the line tells, if a look may have it.
     fn of_look(&self, line: &LookLine) -> Option<Feedback>
-        ensures { result ≡ of_look self.now.row (state_of self.now) (arrival_of line.now.coming) line.now.told (state_of self.now).phase }
+        ensures { result ≡ of_look self.now.row (state_of self.now) (arrival_of line.now.coming) line.now.told
+            (state_of self.now).phase }
     {
         match &self.phase {
             Phase::Down => None,
@@ -229,7 +233,8 @@ impl Life {
 
     // Whether a look begins to store the message of its arrival.
     fn begins_store(&self, coming: &Offered) -> bool
-        ensures { result ≡ begins_store self.now.row (state_of self.now) (arrival_of coming.now) (state_of self.now).phase }
+        ensures { result ≡ begins_store self.now.row (state_of self.now) (arrival_of coming.now)
+            (state_of self.now).phase }
     {
         match &self.phase {
             Phase::Idle => match coming.offer() {
@@ -255,7 +260,8 @@ impl Life {
         requires idle { self.old.phase ≡ Phase.Idle }
         requires room { self.old.next < 2 ^ 48 }
         ensures state { state_of self.new ≡ stored (state_of self.old) frame.now.number is_fault }
-        ensures reply { option_map (frame_of self.old.row.id) result ≡ (if is_fault then Some (refusal self.old.row 5 0) else None) }
+        ensures reply { option_map (frame_of self.old.row.id) result
+            ≡ (if is_fault then Some (refusal self.old.row 5 0) else None) }
         ensures row { self.new.row ≡ self.old.row }
         ensures last { self.new.last ≡ self.old.last }
     {
@@ -273,7 +279,8 @@ impl Life {
     // The answer to a DATA frame whose message is neither stored nor the next.
     fn answer_data(&self, frame: &Frame) -> Option<Reply>
         requires { frame.now.kind ≡ Kind.Data }
-        ensures { option_map (frame_of self.now.row.id) result ≡ answer_to self.now.row self.now.next self.now.greeted frame.now }
+        ensures { option_map (frame_of self.now.row.id) result ≡ answer_to self.now.row self.now.next self.now.greeted
+            frame.now }
     {
         if !self.greeted || frame.session != self.row.id {
             return Some(refuse(Refusal::Frame, 0));
@@ -291,7 +298,8 @@ impl Life {
     fn answer(&mut self, frame: &Frame) -> Option<Reply>
         requires { IsLawful frame.now }
         ensures state { state_of self.new ≡ answered self.old.row (state_of self.old) frame.now }
-        ensures reply { option_map (frame_of self.old.row.id) result ≡ answer_to self.old.row self.old.next self.old.greeted frame.now }
+        ensures reply { option_map (frame_of self.old.row.id) result
+            ≡ answer_to self.old.row self.old.next self.old.greeted frame.now }
         ensures row { self.new.row ≡ self.old.row }
         ensures last { self.new.last ≡ self.old.last }
     {
@@ -316,8 +324,10 @@ impl Life {
         requires row { IsLawfulRow self.old.row }
         requires average { IsInBounds feedback.now }
         requires frame { IsLawful frame.now }
-        ensures state { state_of self.new ≡ taken self.old.row (state_of self.old) (look_of line.now feedback.now) frame.now }
-        ensures reply { option_map (frame_of self.old.row.id) result ≡ reply_taken self.old.row (state_of self.old) (look_of line.now feedback.now) frame.now }
+        ensures state { state_of self.new ≡ taken self.old.row (state_of self.old) (look_of line.now feedback.now)
+            frame.now }
+        ensures reply { option_map (frame_of self.old.row.id) result ≡ reply_taken self.old.row (state_of self.old)
+            (look_of line.now feedback.now) frame.now }
         ensures row { self.new.row ≡ self.old.row }
         ensures last { self.new.last ≡ self.old.last }
     {
@@ -338,8 +348,10 @@ impl Life {
     // A look while a number waits to be acknowledged.
     fn wait(&mut self, number: u64, due: u64, line: &LookLine) -> Option<Reply>
         requires { self.old.phase ≡ Phase.Waiting number due }
-        ensures state { (f : Feedback) → state_of self.new ≡ after self.old.row (state_of self.old) (look_of line.now f) }
-        ensures reply { (f : Feedback) → option_map (frame_of self.old.row.id) result ≡ reply_at self.old.row (state_of self.old) (look_of line.now f) }
+        ensures state { (f : Feedback)
+            → state_of self.new ≡ after self.old.row (state_of self.old) (look_of line.now f) }
+        ensures reply { (f : Feedback) → option_map (frame_of self.old.row.id) result
+            ≡ reply_at self.old.row (state_of self.old) (look_of line.now f) }
         ensures row { self.new.row ≡ self.old.row }
         ensures last { self.new.last ≡ self.old.last }
     {
@@ -390,7 +402,8 @@ impl Life {
         requires average { IsInBounds feedback.now }
         requires plain { IsPlain line.now }
         ensures state { state_of self.new ≡ after self.old.row (state_of self.old) (look_of line.now feedback.now) }
-        ensures reply { option_map (frame_of self.old.row.id) result ≡ reply_at self.old.row (state_of self.old) (look_of line.now feedback.now) }
+        ensures reply { option_map (frame_of self.old.row.id) result
+            ≡ reply_at self.old.row (state_of self.old) (look_of line.now feedback.now) }
         ensures row { self.new.row ≡ self.old.row }
         ensures last { self.new.last ≡ self.old.last }
     {
@@ -415,7 +428,8 @@ impl Life {
         requires average { IsInBounds feedback.now }
         requires plain { IsPlain line.now }
         ensures state { state_of self.new ≡ after self.old.row (state_of self.old) (look_of line.now feedback.now) }
-        ensures reply { option_map (frame_of self.old.row.id) result ≡ reply_at self.old.row (state_of self.old) (look_of line.now feedback.now) }
+        ensures reply { option_map (frame_of self.old.row.id) result
+            ≡ reply_at self.old.row (state_of self.old) (look_of line.now feedback.now) }
         ensures row { self.new.row ≡ self.old.row }
         ensures last { self.new.last ≡ line.now.moment }
     {

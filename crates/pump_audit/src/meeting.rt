@@ -1,5 +1,6 @@
 // What the looks of a record tell of High's times, against the times at its end.
-ghost use Rattle.std.specs.Prelude.{◌≡◌, ℕ, ◌+◌, ◌<◌, [], ◌∷◌, ◌++◌, List, length, Option, None, Some, true, false, OnOk, option_map, slice_get};
+ghost use Rattle.std.specs.Prelude.{◌≡◌, ℕ, ◌+◌, ◌<◌, [], ◌∷◌, ◌++◌, List, length, Option, None, Some, true, false};
+ghost use Rattle.std.specs.Prelude.{OnOk, option_map, slice_get};
 ghost use Rattle.pump_frame.specs.declared.averaging.Averaging.{Averaging};
 ghost use Rattle.pump_frame.specs.Averages.{average_of};
 ghost use Rattle.pump_audit.specs.Pairs.{EndsLike, IsSettled, Keeps, Fell, Takes, Meets};
@@ -39,7 +40,8 @@ impl Claims {
     // Whether one of the last two pairs that are kept is wrong, whatever the times are.
     fn is_settled(&self) -> bool
         ensures yes { result ≡ true → IsSettled self.now.pairs.items }
-        ensures no { result ≡ false → (front : List Claim) (p q : Claim) → self.now.pairs.items ≡ front ++ p ∷ q ∷ [] → p.count < q.count }
+        ensures no { result ≡ false → (prefix : List Claim) (p q : Claim) → self.now.pairs.items ≡ prefix ++ p ∷ q ∷ []
+            → p.count < q.count }
     {
         match self.pairs.as_slice() {
             [.., one, other] => other.count <= one.count,
@@ -49,7 +51,8 @@ impl Claims {
 
     // Looks whether the count falls.
     fn note_fall(&mut self, claim: &Claim)
-        ensures fell { (claims : List Claim) → Fell claims self.old.greatest self.old.fall → Fell (claim.now ∷ claims) self.new.greatest self.new.fall }
+        ensures fell { (claims : List Claim) → Fell claims self.old.greatest self.old.fall
+            → Fell (claim.now ∷ claims) self.new.greatest self.new.fall }
         ensures pairs { self.new.pairs ≡ self.old.pairs }
         ensures met { self.new.met ≡ self.old.met }
     {
@@ -66,7 +69,8 @@ impl Claims {
     // Adds a claim.
     fn add(&mut self, claim: Claim) -> Result<(), OutOfMemory>
         ensures keeps { OnOk result (Takes self.old.pairs.items claim self.new.pairs.items) }
-        ensures fell { (claims : List Claim) → Fell claims self.old.greatest self.old.fall → Fell (claim ∷ claims) self.new.greatest self.new.fall }
+        ensures fell { (claims : List Claim) → Fell claims self.old.greatest self.old.fall
+            → Fell (claim ∷ claims) self.new.greatest self.new.fall }
         ensures met { self.new.met ≡ self.old.met }
     {
         self.note_fall(&claim);
@@ -79,8 +83,10 @@ impl Claims {
 
     /// Adds what a look on this line is told.
     pub fn hear(&mut self, feedback: &Feedback, line: u32) -> Result<(), OutOfMemory>
-        ensures keeps { OnOk result ((claims : List Claim) → Keeps claims self.old.pairs.items → Keeps (claims_of feedback.now line ++ claims) self.new.pairs.items) }
-        ensures fell { (claims : List Claim) → Fell claims self.old.greatest self.old.fall → Fell (claims_of feedback.now line ++ claims) self.new.greatest self.new.fall }
+        ensures keeps { OnOk result ((claims : List Claim) → Keeps claims self.old.pairs.items
+            → Keeps (claims_of feedback.now line ++ claims) self.new.pairs.items) }
+        ensures fell { (claims : List Claim) → Fell claims self.old.greatest self.old.fall
+            → Fell (claims_of feedback.now line ++ claims) self.new.greatest self.new.fall }
         ensures met { self.new.met ≡ self.old.met }
     {
         match feedback {
@@ -96,7 +102,8 @@ impl Claims {
     /// Goes on to the first claim that is not of this count and average.
     pub fn meet(&mut self, count: u32, average: u32)
         ensures meets { (a : Averaging) (times : List ℕ) → count ≡ length times → average ≡ average_of a times
-            → Meets a times count self.old.pairs.items self.old.met → Meets a times (count + 1) self.new.pairs.items self.new.met }
+            → Meets a times count self.old.pairs.items self.old.met
+            → Meets a times (count + 1) self.new.pairs.items self.new.met }
         ensures pairs { self.new.pairs ≡ self.old.pairs }
         ensures greatest { self.new.greatest ≡ self.old.greatest }
         ensures fall { self.new.fall ≡ self.old.fall }

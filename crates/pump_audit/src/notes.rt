@@ -1,7 +1,8 @@
 // Reading the comments of a record.
 ghost use Rattle.std.specs.Prelude.{◌≡◌, IfSome, Some};
 ghost use Rattle.pump_audit.specs.Entries.{IsInRange, note_text};
-ghost use Rattle.pump_audit.specs.Noting.{refusal_of, welcome_of, ack_of, refuse_of, reply_of, low_of, time_of, took_of, end_of, marked, note_of, note_at};
+ghost use Rattle.pump_audit.specs.Noting.{refusal_of, welcome_of, ack_of, refuse_of, reply_of, low_of, time_of};
+ghost use Rattle.pump_audit.specs.Noting.{took_of, end_of, marked, note_of, note_at};
 
 use crate::entry::Note;
 use pump_core::{Refusal, Reply};

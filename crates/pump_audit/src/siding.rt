@@ -38,7 +38,8 @@ impl Side {
     // A line behind which the record stands there.
     fn add_entry(&mut self, alloc: Global, entry: &Entry, place: Place) -> Result<(), OutOfMemory>
         requires { IsSound entry.now }
-        ensures { OnOk result ((first : Option (List ItemTold)) (s : SideTold) → Stands first self.old s → Stands first self.new (with_entry s entry.now place)) }
+        ensures { OnOk result ((first : Option (List ItemTold)) (s : SideTold) → Stands first self.old s
+            → Stands first self.new (with_entry s entry.now place)) }
     {
         match entry {
             Entry::Look(line) => self.looks.add(alloc, line)?,
@@ -51,7 +52,8 @@ impl Side {
 
     /// One more line, without its end; false where it is none of a record in its place.
     pub fn add(&mut self, alloc: Global, text: &[u8], room: &mut Room) -> Result<bool, OutOfMemory>
-        ensures { IfOk result (λ went. (first : Option (List ItemTold)) (s : SideTold) → Stands first self.old s → GoesOnBy first s text.now self.new went) }
+        ensures { IfOk result (λ went. (first : Option (List ItemTold)) (s : SideTold) → Stands first self.old s
+            → GoesOnBy first s text.now self.new went) }
     {
         let Some(entry) = read_entry(text, room) else {
             return Ok(false);
@@ -75,7 +77,8 @@ impl Side {
 
     /// The side at the end of the bytes, if it may end there.
     pub fn ended(self, is_first: bool) -> Option<Side>
-        ensures { MatchOption result ((is_first ≡ true) ⊎ (ends_at self.place ≡ false)) (λ v. (v ≡ self) × (is_first ≡ false) × (ends_at self.place ≡ true)) }
+        ensures { MatchOption result ((is_first ≡ true) ⊎ (ends_at self.place ≡ false)) (λ v. (v ≡ self)
+            × (is_first ≡ false) × (ends_at self.place ≡ true)) }
     {
         if is_first || !self.place.may_end() {
             return None;

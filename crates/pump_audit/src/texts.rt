@@ -95,7 +95,8 @@ impl Texts {
 
     // Reads ahead where nothing was read ahead.
     fn read_ahead<I: Source>(&mut self, tape: &mut I) -> Ahead
-        ensures ahead { IsAhead (prepend_known self.old (I.left tape.old)) (prepend_known self.new (I.left tape.new)) self.new result }
+        ensures ahead { IsAhead (prepend_known self.old (I.left tape.old)) (prepend_known self.new (I.left tape.new))
+            self.new result }
         ensures later { I.faults tape.old ≤ I.faults tape.new }
         ensures failed { result ≡ Ahead.Failed → Rose (I.faults tape.old) (I.faults tape.new) }
     {
@@ -130,7 +131,8 @@ impl Texts {
     // So many bytes join the text, and so many behind them are let go; false where there is no room for them.
     fn take(&mut self, len: usize, skip: usize, text: &mut ArrayVec<u8, 2400>) -> bool
         requires { len + skip ≤ length self.old }
-        ensures taken { result ≡ true → (text.new.items ≡ text.old.items ++ take len self.old) × (self.new ≡ drop (len + skip) self.old) }
+        ensures taken { result ≡ true → (text.new.items ≡ text.old.items ++ take len self.old)
+            × (self.new ≡ drop (len + skip) self.old) }
         ensures short { result ≡ true → length text.new.items ≤ 2400 }
         ensures full { result ≡ false → 2400 < length text.old.items + len }
     {
@@ -164,7 +166,8 @@ impl Texts {
     /// The next line, without its end, into the room. After any answer but `Text` nothing is said of the
     /// room.
     pub fn next<I: Source>(&mut self, tape: &mut I, text: &mut ArrayVec<u8, 2400>) -> Texted
-        ensures next { IsNextText (prepend_known self.old (I.left tape.old)) (prepend_known self.new (I.left tape.new)) text.new.items result }
+        ensures next { IsNextText (prepend_known self.old (I.left tape.old)) (prepend_known self.new (I.left tape.new))
+            text.new.items result }
         ensures later { I.faults tape.old ≤ I.faults tape.new }
         ensures failed { result ≡ Texted.Failed → Rose (I.faults tape.old) (I.faults tape.new) }
     {

@@ -34,10 +34,10 @@ use Rattle.pump_chain.specs.declared.chain.Chain.{Chain}
 use Rattle.pump_chain.specs.declared.sender.Sender.{Sender}
 use Rattle.pump_chain.specs.Chained.{Chained, OfFirst, OfSecond, MakesFirst, MakesSecond, is_in_order, received_of, first_led, second_led, sender_after, with_coarse}
 use Rattle.pump_chain.specs.Private.{order_by}
-use Rattle.pump_chain.specs.Standing.{ChainStands, ChainStandsOrFails, AppliesBy, FailsWith, LeaveBoth, LeaveFronts, LeavesFronts, IsSentOn, IsLinked, with_first, with_second}
+use Rattle.pump_chain.specs.Standing.{ChainStands, ChainStandsOrFails, AppliesBy, FailsWith, LeaveBoth, LeavePrefixes, LeavesPrefixes, IsSentOn, IsLinked, with_first, with_second}
 use Rattle.pump_chain.proofs.Counting.{Goes, rose_in, fails_own}
-use Rattle.pump_chain.proofs.Crashing.{Left, pump_lawful, left_alone, left_same, left_going, left_broken, left_full, left_by_line, fronts}
-use Rattle.pump_chain.proofs.Fronts.{front_same, front_then, in_longer}
+use Rattle.pump_chain.proofs.Crashing.{Left, pump_lawful, left_alone, left_same, left_going, left_broken, left_full, left_by_line, prefixes}
+use Rattle.pump_chain.proofs.Prefixes.{prefix_same, prefix_then, in_longer}
 use Rattle.pump_chain.proofs.Linking.{CountsAccepted, pump_counts, AddsOf, line_sent, breaks_sent}
 use Rattle.pump_chain.proofs.Moving.{Above, Below, Moves, line_moves, breaks_move, overfills_move}
 
@@ -59,17 +59,17 @@ pub order_is : {D : Type 0} {g : _} (m : Meaning D) (s : Chain D g) (c : Chained
 order_is m s c line S = λ i. is_from (max (state_moment m s.first.state c.first.past S.first i) (state_moment m s.second.state c.second.past S.second i)) (moment_in line)
 
 pub moves_on : (p q : Past) → Moves p q → IsPrefixOf p.world.received q.world.received
-moves_on p q m = ⊎_elim (λ (a : Above p.world q.world). a.received) (λ (b : Below p.world q.world). front_same _ _ (sym b.received)) m
+moves_on p q m = ⊎_elim (λ (a : Above p.world q.world). a.received) (λ (b : Below p.world q.world). prefix_same _ _ (sym b.received)) m
 
 -- what is sent on of a list is of a longer one
 pub still_sent : (xs ys : List Payload) (waits : List Arrival) → IsPrefixOf xs ys → All (IsSentOn xs) waits → All (IsSentOn ys) waits
-still_sent xs ys waits front all = All-weaker (IsSentOn xs) (IsSentOn ys) each waits all
+still_sent xs ys waits prefix all = All-weaker (IsSentOn xs) (IsSentOn ys) each waits all
   where
     each : (a : Arrival) → IsSentOn xs a → IsSentOn ys a
     each Nothing h = tt
     each Bad h = tt
     each Gone h = tt
-    each (Came f) h = λ is. in_longer xs ys f.number f.payload front (h is)
+    each (Came f) h = λ is. in_longer xs ys f.number f.payload prefix (h is)
 
 -- ---- a line of the first session ----
 
@@ -82,7 +82,7 @@ module _ {D : Type 0} {g : _} (m : Meaning D) (s t : Chain D g) (c : Chained) (l
   at_row P h = subst P S.first_row h
 
   still : (q : Past) → IsPrefixOf p.world.received q.world.received → IsLinked q.world c.second.past.world
-  still q front = front_then _ p.world.received q.world.received S.linked front
+  still q prefix = prefix_then _ p.world.received q.world.received S.linked prefix
 
   second_stands : StandsFor m t.second c.second.past
   second_stands = subst (λ (x : Pump D g). StandsFor m x c.second.past) (sym second) S.second
@@ -95,12 +95,12 @@ module _ {D : Type 0} {g : _} (m : Meaning D) (s t : Chain D g) (c : Chained) (l
   both_left q leaves = record { first = leaves; second = (left_alone m s.second t.second c.second.past S.second second).leaves }
 
   fails : (q : Past) → StandsOrFails m t.first q → IsPrefixOf p.world.received q.world.received → ChainStandsOrFails m t (with_first c q)
-  fails q either front = record { first = either; first_row = row ∙ S.first_row; second = inl second_stands; second_row = second_row; linked = still q front }
+  fails q either prefix = record { first = either; first_row = row ∙ S.first_row; second = inl second_stands; second_row = second_row; linked = still q prefix }
 
   pub first_applies : (stop : Option Stop) → (stop ≡ None → t.is_under_way ≡ true) → (stop ≡ Some Line → t.is_under_way ≡ s.is_under_way)
       → Goes m s.first t.first stop → Applies m s.first t.first line p printed stop → AppliesBy m s t c (OfFirst line) printed stop
   first_applies None way same go (timely, (q, step, stands, leaves, timed)) =
-      let front = moves_on p q (line_moves (row_of s.first) p line q printed step) in (
+      let prefix = moves_on p q (line_moves (row_of s.first) p line q printed step) in (
         first_led c q,
         (order, (q, (at_row (λ r. is_timely r p line ≡ true) timely, at_row (λ r. LineStep r p line q printed) step), refl)),
         record {
@@ -110,8 +110,8 @@ module _ {D : Type 0} {g : _} (m : Meaning D) (s t : Chain D g) (c : Chained) (l
           second_row = second_row;
           sender = sender ∙ S.sender;
           under_way = way refl;
-          linked = still q front;
-          waits = still_sent p.world.received q.world.received c.second.past.waits front S.waits;
+          linked = still q prefix;
+          waits = still_sent p.world.received q.world.received c.second.past.waits prefix S.waits;
         },
         record { first = leaves; second = (both_left q leaves).second },
       )
@@ -158,29 +158,29 @@ module _ {D : Type 0} {g : _} (m : Meaning D) (u : Chain D g) (two : Pump D g) (
   counts : CountsAccepted (row_of u.second) r
   counts = pump_counts m u.second.state r S.second
 
-  accepted_front : IsPrefixOf r.world.accepted received
-  accepted_front = front_then r.world.accepted _ received (front_same _ _ (sym (none_kept r.world (state_rests m u.second.state r S.second)))) S.linked
+  accepted_prefix : IsPrefixOf r.world.accepted received
+  accepted_prefix = prefix_then r.world.accepted _ received (prefix_same _ _ (sym (none_kept r.world (state_rests m u.second.state r S.second)))) S.linked
 
   linked_at_rest : (q : Past) → StandsFor m two q → IsPrefixOf q.world.accepted received → IsLinked c.first.past.world q.world
-  linked_at_rest q stands front = front_then _ q.world.accepted received (front_same _ _ (none_kept q.world (state_rests m two.state q stands))) front
+  linked_at_rest q stands prefix = prefix_then _ q.world.accepted received (prefix_same _ _ (none_kept q.world (state_rests m two.state q stands))) prefix
 
   -- what the line leaves of the second pump, and that what it has accepted is linked still
   pub second_left : (stop : Option Stop) → Applies m u.second two line r printed stop → (q : Past) × Left m u.second two r q × IsLinked c.first.past.world q.world
   second_left None (timely, (q, step, stands, leaves, timed)) = (
     q,
     left_going m u.second two line printed r q S.second step stands leaves,
-    linked_at_rest q stands ((line_sent received (row_of u.second) r line q printed adds step).accepted counts S.waits accepted_front),
+    linked_at_rest q stands ((line_sent received (row_of u.second) r line q printed adds step).accepted counts S.waits accepted_prefix),
   )
   second_left (Some Line) (refused, none, e) = (r, left_alone m u.second two r S.second e, S.linked)
   second_left (Some (Device role faults)) (timely, (q, breaks, failed, leaves)) = (
     q,
     left_broken m u.second two line printed r q S.second role faults breaks failed leaves,
-    breaks_sent received (row_of u.second) r line role q printed adds breaks counts S.waits accepted_front S.linked,
+    breaks_sent received (row_of u.second) r line role q printed adds breaks counts S.waits accepted_prefix S.linked,
   )
   second_left (Some (Full end k size)) (timely, (q, over, stands, leaves)) = (
     q,
     left_full m u.second two line printed r q S.second end k size over stands leaves,
-    linked_at_rest q stands (front_then q.world.accepted r.world.accepted received (front_same _ _ (overfills_move (row_of u.second) r line q printed end k size over).world.accepted) accepted_front),
+    linked_at_rest q stands (prefix_then q.world.accepted r.world.accepted received (prefix_same _ _ (overfills_move (row_of u.second) r line q printed end k size over).world.accepted) accepted_prefix),
   )
   second_left (Some (Disk role why)) a = absurd a
 
@@ -221,7 +221,7 @@ module _ {D : Type 0} {g : _} (m : Meaning D) (s u t : Chain D g) (c : Chained) 
           second_row = row ∙ S.second_row;
           sender = (way refl).1;
           under_way = (way refl).0;
-          linked = linked_at_rest m u t.second c line printed S adds q stands (sent.accepted (counts m u t.second c line printed S adds) S.waits (accepted_front m u t.second c line printed S adds));
+          linked = linked_at_rest m u t.second c line printed S adds q stands (sent.accepted (counts m u t.second c line printed S adds) S.waits (accepted_prefix m u t.second c line printed S adds));
           waits = sent.waits S.waits;
         },
         record { first = left.leaves; second = (second_left_both q leaves).second },
@@ -244,7 +244,7 @@ module _ {D : Type 0} {g : _} (m : Meaning D) (s u t : Chain D g) (c : Chained) 
   second_applies (Some (Device role faults)) order way same go (timely, (q, breaks, failed, leaves)) = (
     with_second c q,
     (order, inl (q, (in_row (λ x. is_timely x rest line ≡ true) timely, in_row (λ x. Breaks x rest line role q printed) breaks), refl)),
-    ends q (inr (role, faults, failed)) (breaks_sent sent_on (row_of u.second) rest line role q printed adds breaks (counts m u t.second c line printed S adds) S.waits (accepted_front m u t.second c line printed S adds) S.linked),
+    ends q (inr (role, faults, failed)) (breaks_sent sent_on (row_of u.second) rest line role q printed adds breaks (counts m u t.second c line printed S adds) S.waits (accepted_prefix m u t.second c line printed S adds) S.linked),
     second_left_both q leaves,
     fails_own m (row_of u.second) rest line role q printed faults breaks s.first t.first s.second t.second
         (subst (λ (x : Pump D g). FailsWith m (disk_at role x) (disk_at role t.second) faults) second (rose_in m u.second t.second role faults go, failed.1.counted)),
@@ -252,7 +252,7 @@ module _ {D : Type 0} {g : _} (m : Meaning D) (s u t : Chain D g) (c : Chained) 
   second_applies (Some (Full end k size)) order way same go (timely, (q, over, stands, leaves)) = (
     with_second c q,
     (order, (q, (in_row (λ x. is_timely x rest line ≡ true) timely, in_row (λ x. Overfills x rest line q printed end k size) over), refl)),
-    ends q (inl stands) (linked_at_rest m u t.second c line printed S adds q stands (front_then q.world.accepted rest.world.accepted sent_on (front_same _ _ (overfills_move (row_of u.second) rest line q printed end k size over).world.accepted) (accepted_front m u t.second c line printed S adds))),
+    ends q (inl stands) (linked_at_rest m u t.second c line printed S adds q stands (prefix_then q.world.accepted rest.world.accepted sent_on (prefix_same _ _ (overfills_move (row_of u.second) rest line q printed end k size over).world.accepted) (accepted_prefix m u t.second c line printed S adds))),
     second_left_both q leaves,
   )
   second_applies (Some (Disk role why)) order way same go a = absurd a
@@ -260,34 +260,34 @@ module _ {D : Type 0} {g : _} (m : Meaning D) (s u t : Chain D g) (c : Chained) 
 -- ---- the six disks ----
 
 -- a line of the first session
-pub first_fronts : {D : Type 0} {g : _} (m : Meaning D) (s : Chain D g) (one two : Pump D g) (c : Chained) (line : ScriptLine) (printed : List Printed) (stop : Option Stop) → ChainStands m s c → two ≡ s.second
-    → Applies m s.first one line c.first.past printed stop → LeaveFronts m s.first one s.second two
-first_fronts m s one two c line printed stop S second a =
+pub first_prefixes : {D : Type 0} {g : _} (m : Meaning D) (s : Chain D g) (one two : Pump D g) (c : Chained) (line : ScriptLine) (printed : List Printed) (stop : Option Stop) → ChainStands m s c → two ≡ s.second
+    → Applies m s.first one line c.first.past printed stop → LeavePrefixes m s.first one s.second two
+first_prefixes m s one two c line printed stop S second a =
     let p = c.first.past in
     let r = c.second.past in
     let l = left_by_line m s.first one line printed p S.first stop a in
-    fronts m s.first one s.second two p l.0 r r l.1 (left_alone m s.second two r S.second second) (pump_lawful m s.first p S.first) (pump_lawful m s.second r S.second) S.linked S.linked
+    prefixes m s.first one s.second two p l.0 r r l.1 (left_alone m s.second two r S.second second) (pump_lawful m s.first p S.first) (pump_lawful m s.second r S.second) S.linked S.linked
 
 -- one of the second session, behind which the first pump is as it was, or its receiver was read
-pub second_fronts : {D : Type 0} {g : _} (m : Meaning D) (s u : Chain D g) (one two : Pump D g) (c : Chained) (line : ScriptLine) (printed : List Printed) (stop : Option Stop) (S : ChainStands m s c) (U : ChainStands m u c) (l : Left m s.first one c.first.past c.first.past)
-    → u.second ≡ s.second → row_of two ≡ row_of u.second → one ≡ u.first → AddsOf (received_of c) line → Applies m u.second two line c.second.past printed stop → LeaveFronts m s.first one s.second two
-second_fronts {D} {g} m s u one two c line printed stop S U l same row first adds a =
+pub second_prefixes : {D : Type 0} {g : _} (m : Meaning D) (s u : Chain D g) (one two : Pump D g) (c : Chained) (line : ScriptLine) (printed : List Printed) (stop : Option Stop) (S : ChainStands m s c) (U : ChainStands m u c) (l : Left m s.first one c.first.past c.first.past)
+    → u.second ≡ s.second → row_of two ≡ row_of u.second → one ≡ u.first → AddsOf (received_of c) line → Applies m u.second two line c.second.past printed stop → LeavePrefixes m s.first one s.second two
+second_prefixes {D} {g} m s u one two c line printed stop S U l same row first adds a =
     let p = c.first.past in
     let r = c.second.past in
     let k = second_left m u two c line printed U adds stop a in
-    subst (λ (x : Pump D g). LeaveFronts m s.first one x two) same
-    (fronts m s.first one u.second two p p r k.0 l k.1 (pump_lawful m s.first p S.first) (pump_lawful m u.second r U.second) S.linked k.2)
+    subst (λ (x : Pump D g). LeavePrefixes m s.first one x two) same
+    (prefixes m s.first one u.second two p p r k.0 l k.1 (pump_lawful m s.first p S.first) (pump_lawful m u.second r U.second) S.linked k.2)
 
 -- nothing was done but that the first receiver was read
-pub read_fronts : {D : Type 0} {g : _} (m : Meaning D) (s : Chain D g) (one two : Pump D g) (c : Chained) → ChainStands m s c → Left m s.first one c.first.past c.first.past → two ≡ s.second → LeaveFronts m s.first one s.second two
-read_fronts m s one two c S l second =
+pub read_prefixes : {D : Type 0} {g : _} (m : Meaning D) (s : Chain D g) (one two : Pump D g) (c : Chained) → ChainStands m s c → Left m s.first one c.first.past c.first.past → two ≡ s.second → LeavePrefixes m s.first one s.second two
+read_prefixes m s one two c S l second =
     let p = c.first.past in
     let r = c.second.past in
-    fronts m s.first one s.second two p p r r l (left_alone m s.second two r S.second second) (pump_lawful m s.first p S.first) (pump_lawful m s.second r S.second) S.linked S.linked
+    prefixes m s.first one s.second two p p r r l (left_alone m s.second two r S.second second) (pump_lawful m s.first p S.first) (pump_lawful m s.second r S.second) S.linked S.linked
 
 -- nothing was done
-pub still_fronts : {D : Type 0} {g : _} (m : Meaning D) (s : Chain D g) (c : Chained) → ChainStands m s c → LeavesFronts m s s
-still_fronts m s c S = read_fronts m s s.first s.second c S (left_alone m s.first s.first c.first.past S.first refl) refl
+pub still_prefixes : {D : Type 0} {g : _} (m : Meaning D) (s : Chain D g) (c : Chained) → ChainStands m s c → LeavesPrefixes m s s
+still_prefixes m s c S = read_prefixes m s s.first s.second c S (left_alone m s.first s.first c.first.past S.first refl) refl
 
 -- of each disk what was left
 pub still_both : {D : Type 0} {g : _} (m : Meaning D) (s : Chain D g) (c : Chained) → ChainStands m s c → LeaveBoth m s s c c
@@ -341,11 +341,11 @@ module _ {D : Type 0} {g : _} (m : Meaning D) (s t : Chain D g) (c : Chained) (S
   )
 
 -- with all disks as they were
-pub same_fronts : {D : Type 0} {g : _} (m : Meaning D) (s : Chain D g) (one two : Pump D g) (c : Chained) → ChainStands m s c → ((role : Role) → disk_at role one ≡ disk_at role s.first) → ((role : Role) → disk_at role two ≡ disk_at role s.second) → LeaveFronts m s.first one s.second two
-same_fronts m s one two c S first second =
+pub same_prefixes : {D : Type 0} {g : _} (m : Meaning D) (s : Chain D g) (one two : Pump D g) (c : Chained) → ChainStands m s c → ((role : Role) → disk_at role one ≡ disk_at role s.first) → ((role : Role) → disk_at role two ≡ disk_at role s.second) → LeavePrefixes m s.first one s.second two
+same_prefixes m s one two c S first second =
     let p = c.first.past in
     let r = c.second.past in
-    fronts m s.first one s.second two p p r r (left_same m s.first one p S.first first) (left_same m s.second two r S.second second) (pump_lawful m s.first p S.first) (pump_lawful m s.second r S.second) S.linked S.linked
+    prefixes m s.first one s.second two p p r r (left_same m s.first one p S.first first) (left_same m s.second two r S.second second) (pump_lawful m s.first p S.first) (pump_lawful m s.second r S.second) S.linked S.linked
 
 -- ---- flags ----
 

@@ -22,36 +22,36 @@ agree_more from n xs ys agree same k least small = ⊎_elim
     (λ (e : k ≡ n). ap (λ (x : ℕ). get_or xs x []) e ∙ same ∙ ap (λ (x : ℕ). get_or ys x []) (sym e))
     (split k n small)
 
-agree_front : (xs ys : List Payload) → length xs ≤ length ys → ((k : ℕ) → k < length xs → get_or xs k [] ≡ get_or ys k []) → IsPrefixOf xs ys
-agree_front [] ys few same = (ys, refl)
-agree_front (x ∷ xs) [] few same = absurd (omega (arith, few))
-agree_front (x ∷ xs) (y ∷ ys) few same =
-    let (more, e) = agree_front xs ys (omega (arith, few)) (λ k h. same (suc k) (omega (arith, h))) in
+agree_prefix : (xs ys : List Payload) → length xs ≤ length ys → ((k : ℕ) → k < length xs → get_or xs k [] ≡ get_or ys k []) → IsPrefixOf xs ys
+agree_prefix [] ys few same = (ys, refl)
+agree_prefix (x ∷ xs) [] few same = absurd (omega (arith, few))
+agree_prefix (x ∷ xs) (y ∷ ys) few same =
+    let (more, e) = agree_prefix xs ys (omega (arith, few)) (λ k h. same (suc k) (omega (arith, h))) in
     (more, λ i. same zero (omega arith) i ∷ e i)
 
-in_front : (xs more : List Payload) (k : ℕ) → k < length xs → get_or (xs ++ more) k [] ≡ get_or xs k []
-in_front [] more k h = absurd (omega (arith, h))
-in_front (x ∷ xs) more zero h = refl
-in_front (x ∷ xs) more (suc k) h = in_front xs more k (omega (arith, h))
+in_prefix : (xs more : List Payload) (k : ℕ) → k < length xs → get_or (xs ++ more) k [] ≡ get_or xs k []
+in_prefix [] more k h = absurd (omega (arith, h))
+in_prefix (x ∷ xs) more zero h = refl
+in_prefix (x ∷ xs) more (suc k) h = in_prefix xs more k (omega (arith, h))
 
--- a list of which the front and all behind what is removed are as in another is a front of that one
-pub both_front : (taken accepted ys : List Payload) (removed : ℕ) → IsPrefixOf taken accepted → removed ≤ length taken → length accepted ≤ length ys → Agree 0 (length taken) taken ys → Agree removed (length accepted) accepted ys → IsPrefixOf accepted ys
-both_front taken accepted ys removed (more, e) behind few front live = agree_front accepted ys few (λ k small. ⊎_elim
-    (λ (l : k < length taken). ap (λ (zs : List Payload). get_or zs k []) (sym e) ∙ in_front taken more k l ∙ front k (omega arith) l)
+-- a list of which the prefix and all behind what is removed are as in another is a prefix of that one
+pub both_prefix : (taken accepted ys : List Payload) (removed : ℕ) → IsPrefixOf taken accepted → removed ≤ length taken → length accepted ≤ length ys → Agree 0 (length taken) taken ys → Agree removed (length accepted) accepted ys → IsPrefixOf accepted ys
+both_prefix taken accepted ys removed (more, e) behind few prefix live = agree_prefix accepted ys few (λ k small. ⊎_elim
+    (λ (l : k < length taken). ap (λ (zs : List Payload). get_or zs k []) (sym e) ∙ in_prefix taken more k l ∙ prefix k (omega arith) l)
     (λ (l : length taken ≤ k). live k (omega (arith, behind, l)) small)
     (halves k (length taken)))
 
--- what stands in a front stands in the list
-pub front_at : (xs ys : List Payload) (n : ℕ) → IsPrefixOf xs ys → n < length xs → (n < length ys) × (get_or ys n [] ≡ get_or xs n [])
-front_at xs ys n (more, e) small = ((let l = length-append xs more in let f = ap length e in omega (arith, l, f, small)), ap (λ (zs : List Payload). get_or zs n []) (sym e) ∙ in_front xs more n small)
+-- what stands in a prefix stands in the list
+pub prefix_at : (xs ys : List Payload) (n : ℕ) → IsPrefixOf xs ys → n < length xs → (n < length ys) × (get_or ys n [] ≡ get_or xs n [])
+prefix_at xs ys n (more, e) small = ((let l = length-append xs more in let f = ap length e in omega (arith, l, f, small)), ap (λ (zs : List Payload). get_or zs n []) (sym e) ∙ in_prefix xs more n small)
 
-pub front_short : (xs ys : List Payload) → IsPrefixOf xs ys → length xs ≤ length ys
-front_short xs ys (more, e) = (let l = length-append xs more in let f = ap length e in omega (arith, l, f))
+pub prefix_short : (xs ys : List Payload) → IsPrefixOf xs ys → length xs ≤ length ys
+prefix_short xs ys (more, e) = (let l = length-append xs more in let f = ap length e in omega (arith, l, f))
 
--- so many messages of a front are those of the list
+-- so many messages of a prefix are those of the list
 pub agree_longer : (taken accepted ys : List Payload) (n : ℕ) → IsPrefixOf taken accepted → n ≤ length taken → Agree 0 n taken ys → Agree 0 n accepted ys
 agree_longer taken accepted ys n (more, e) few agree k least small =
-    ap (λ (zs : List Payload). get_or zs k []) (sym e) ∙ in_front taken more k (omega (arith, few, small)) ∙ agree k least small
+    ap (λ (zs : List Payload). get_or zs k []) (sym e) ∙ in_prefix taken more k (omega (arith, few, small)) ∙ agree k least small
 
 -- the first one that differs from a number on, where those before it are alike, is the first of all
 pub differ_first : (from number : ℕ) (accepted received : List Payload) → Agree 0 from accepted received → DifferAt from number accepted received → DifferAt 0 number accepted received
@@ -62,17 +62,17 @@ differ_first from number accepted received agree d = record {
   unlike = d.unlike;
 }
 
--- one that differs in a front differs in the list
+-- one that differs in a prefix differs in the list
 pub differ_longer : (number : ℕ) (taken accepted ys : List Payload) → IsPrefixOf taken accepted → DifferAt 0 number taken ys → DifferAt 0 number accepted ys
-differ_longer number taken accepted ys front d =
-    let at = front_at taken accepted number front d.within in
+differ_longer number taken accepted ys prefix d =
+    let at = prefix_at taken accepted number prefix d.within in
     record {
       least = d.least;
       within = at.0;
-      before = agree_longer taken accepted ys number front (let w = d.within in omega (arith, w)) d.before;
+      before = agree_longer taken accepted ys number prefix (let w = d.within in omega (arith, w)) d.before;
       unlike = λ same. d.unlike (sym at.1 ∙ same);
     }
 
--- a front has none that differs
-pub front_alike : (accepted received : List Payload) (number : ℕ) → IsPrefixOf accepted received → DifferAt 0 number accepted received → ⊥
-front_alike accepted received number front d = d.unlike (sym (front_at accepted received number front d.within).1)
+-- a prefix has none that differs
+pub prefix_alike : (accepted received : List Payload) (number : ℕ) → IsPrefixOf accepted received → DifferAt 0 number accepted received → ⊥
+prefix_alike accepted received number prefix d = d.unlike (sym (prefix_at accepted received number prefix d.within).1)

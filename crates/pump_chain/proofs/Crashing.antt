@@ -32,48 +32,48 @@ use Rattle.two_worlds.specs.Reads.{ReadsAlone}
 use Rattle.two_worlds.specs.States.{disks_in, StandsIn}
 use Rattle.two_worlds.proofs.Disks.Crashes.{LowAt, low_case, low_later, high_case, recv_case, and_right, kept_longer, prefix_length}
 use Rattle.two_worlds.proofs.Disks.Leaving.{leaves_by_step, leaves_since}
-use Rattle.pump_chain.specs.Standing.{IsLinked, Tell, LeaveFronts}
-use Rattle.pump_chain.proofs.Fronts.{front_same, front_then, kept_front, kept_most}
+use Rattle.pump_chain.specs.Standing.{IsLinked, Tell, LeavePrefixes}
+use Rattle.pump_chain.proofs.Prefixes.{prefix_same, prefix_then, kept_prefix, kept_most}
 use Rattle.pump_chain.proofs.Moving.{Above, Below, Moves, line_moves, breaks_move, overfills_move}
 
 -- ---- the lists of one pump ----
 
--- what a crash keeps of a lawful world is at the receiver a front of what was accepted
-crash_front : (w : World) (kept : Bool) → IsLawful w → IsPrefixOf (with_kept (kept && w.taking) w.packet w.received) w.accepted
-crash_front w kept lawful = (stays_lawful w (Crash None (Some kept)) _ lawful refl).delivered.prefix
+-- what a crash keeps of a lawful world is at the receiver a prefix of what was accepted
+crash_prefix : (w : World) (kept : Bool) → IsLawful w → IsPrefixOf (with_kept (kept && w.taking) w.packet w.received) w.accepted
+crash_prefix w kept lawful = (stays_lawful w (Crash None (Some kept)) _ lawful refl).delivered.prefix
 
 module _ (p q : World) (lawful_p : IsLawful p) (lawful_q : IsLawful q) (moves : Above p q ⊎ Below p q) where
   abbrev Either : World → Type 0
   Either w = (w ≡ p) ⊎ (w ≡ q)
 
   accepted_grows : IsPrefixOf p.accepted q.accepted
-  accepted_grows = ⊎_elim (λ (a : Above p q). front_same _ _ (sym a.accepted)) (λ (b : Below p q). b.accepted) moves
+  accepted_grows = ⊎_elim (λ (a : Above p q). prefix_same _ _ (sym a.accepted)) (λ (b : Below p q). b.accepted) moves
 
   received_grows : IsPrefixOf p.received q.received
-  received_grows = ⊎_elim (λ (a : Above p q). a.received) (λ (b : Below p q). front_same _ _ (sym b.received)) moves
+  received_grows = ⊎_elim (λ (a : Above p q). a.received) (λ (b : Below p q). prefix_same _ _ (sym b.received)) moves
 
-  -- what was accepted before is a front of all that is told accepted
+  -- what was accepted before is a prefix of all that is told accepted
   accepted_from : (w : World) (kept : Bool) → Either w → IsPrefixOf p.accepted (with_kept kept w.storing w.accepted)
-  accepted_from w kept (inl e) = front_then p.accepted w.accepted _ (front_same _ _ (sym (ap (λ (x : World). x.accepted) e))) (kept_front kept w.storing w.accepted)
+  accepted_from w kept (inl e) = prefix_then p.accepted w.accepted _ (prefix_same _ _ (sym (ap (λ (x : World). x.accepted) e))) (kept_prefix kept w.storing w.accepted)
   accepted_from w kept (inr e) =
-      front_then p.accepted w.accepted _ (front_then p.accepted q.accepted w.accepted accepted_grows (front_same _ _ (sym (ap (λ (x : World). x.accepted) e)))) (kept_front kept w.storing w.accepted)
+      prefix_then p.accepted w.accepted _ (prefix_then p.accepted q.accepted w.accepted accepted_grows (prefix_same _ _ (sym (ap (λ (x : World). x.accepted) e)))) (kept_prefix kept w.storing w.accepted)
 
-  -- all that is told received is a front of what was accepted before
+  -- all that is told received is a prefix of what was accepted before
   abbrev told_received : World → Bool → List Payload
   told_received w kept = with_kept (kept && w.taking) w.packet w.received
 
   received_to : (w : World) (kept : Bool) → Either w → IsPrefixOf (told_received w kept) p.accepted
-  received_to w kept (inl e) = subst (λ (x : World). IsPrefixOf (told_received x kept) p.accepted) (sym e) (crash_front p kept lawful_p)
+  received_to w kept (inl e) = subst (λ (x : World). IsPrefixOf (told_received x kept) p.accepted) (sym e) (crash_prefix p kept lawful_p)
   received_to w kept (inr e) = subst (λ (x : World). IsPrefixOf (told_received x kept) p.accepted) (sym e) (⊎_elim
-      (λ (a : Above p q). front_then (told_received q kept) q.accepted p.accepted (crash_front q kept lawful_q) (front_same _ _ a.accepted))
-      (λ (b : Below p q). subst (λ (l : List Payload). IsPrefixOf l p.accepted) (λ i. with_kept (kept && sym b.taking i) (sym b.packet i) (sym b.received i)) (crash_front p kept lawful_p))
+      (λ (a : Above p q). prefix_then (told_received q kept) q.accepted p.accepted (crash_prefix q kept lawful_q) (prefix_same _ _ a.accepted))
+      (λ (b : Below p q). subst (λ (l : List Payload). IsPrefixOf l p.accepted) (λ i. with_kept (kept && sym b.taking i) (sym b.packet i) (sym b.received i)) (crash_prefix p kept lawful_p))
       moves)
 
-  -- what was received before is a front of all that is told received
+  -- what was received before is a prefix of all that is told received
   received_from : (w : World) (kept : Bool) → Either w → IsPrefixOf p.received (told_received w kept)
-  received_from w kept (inl e) = front_then p.received w.received _ (front_same _ _ (sym (ap (λ (x : World). x.received) e))) (kept_front (kept && w.taking) w.packet w.received)
+  received_from w kept (inl e) = prefix_then p.received w.received _ (prefix_same _ _ (sym (ap (λ (x : World). x.received) e))) (kept_prefix (kept && w.taking) w.packet w.received)
   received_from w kept (inr e) =
-      front_then p.received w.received _ (front_then p.received q.received w.received received_grows (front_same _ _ (sym (ap (λ (x : World). x.received) e)))) (kept_front (kept && w.taking) w.packet w.received)
+      prefix_then p.received w.received _ (prefix_then p.received q.received w.received received_grows (prefix_same _ _ (sym (ap (λ (x : World). x.received) e)))) (kept_prefix (kept && w.taking) w.packet w.received)
 
 -- ---- what is left of a pump ----
 
@@ -95,7 +95,7 @@ pub record Left {D : Type 0} {g : _} (m : Meaning D) (s t : Pump D g) (p q : Pas
   pub moves : Moves p q
 
 stays_above : (w : World) → Above w w
-stays_above w = record { accepted = refl; storing = refl; received = front_same w.received w.received refl }
+stays_above w = record { accepted = refl; storing = refl; received = prefix_same w.received w.received refl }
 
 state_lawful : {D : Type 0} (m : Meaning D) (s : PumpState D) (p : Past) → StandsIn m s p → IsLawful p.world
 state_lawful m (Open c) p s = s.sound.lawful
@@ -228,9 +228,9 @@ module _ (row : SessionRow) (w x v : World) (low high recv : List ℕ) (a : (kep
 
   -- what is removed by the low disk was received
   tell_lists : w.removed ≤ length (with_kept (r.0 && v.taking) v.packet v.received) → IsPrefixOf (with_kept (r.0 && v.taking) v.packet v.received) (with_kept a.0 w.storing w.accepted) → Lists
-  tell_lists few front = record {
+  tell_lists few prefix = record {
     recv_is = r.1;
-    low_is = low_later row w.removed (length (with_kept (r.0 && v.taking) v.packet v.received)) (with_kept a.0 w.storing w.accepted) low few (prefix_length _ front.0 _ front.1) a.1;
+    low_is = low_later row w.removed (length (with_kept (r.0 && v.taking) v.packet v.received)) (with_kept a.0 w.storing w.accepted) low few (prefix_length _ prefix.0 _ prefix.1) a.1;
     removed = if b.0 && x.removing then x.removed + 1 else x.removed;
     high_is = b.1;
   }
@@ -246,7 +246,7 @@ removed_by x kept lawful = by (kept && x.removing) (and_right kept x.removing)
 -- what is removed was received where the receiver's list is no shorter than that of the world after the line
 module _ (p q : World) (moves : Above p q ⊎ Below p q) (lawful_p : IsLawful p) (lawful_q : IsLawful q) where
   grows : length p.received ≤ length q.received
-  grows = (let front = received_grows p q lawful_p lawful_q moves in prefix_length p.received front.0 q.received front.1)
+  grows = (let prefix = received_grows p q lawful_p lawful_q moves in prefix_length p.received prefix.0 q.received prefix.1)
 
   within : (w : World) (n : ℕ) → (w ≡ p) ⊎ (w ≡ q) → (told : ℕ) → length q.received ≤ told → n ≤ length w.received → n ≤ told
   within w n (inl e) told last few = (let long = grows in let same = ap (λ (x : World). length x.received) e in omega (arith, long, same, last, few))
@@ -256,22 +256,22 @@ module _ (p q : World) (moves : Above p q ⊎ Below p q) (lawful_p : IsLawful p)
   removed_before : (w v : World) (kept : Bool) → w.removed ≡ p.removed → (v ≡ p) ⊎ (v ≡ q) → w.removed ≤ length (told_received p q lawful_p lawful_q moves v kept)
   removed_before w v kept still is_v =
       let few = lawful_p.delivered.removed in
-      let front = received_from p q lawful_p lawful_q moves v kept is_v in
-      let long = prefix_length p.received front.0 _ front.1 in
+      let prefix = received_from p q lawful_p lawful_q moves v kept is_v in
+      let long = prefix_length p.received prefix.0 _ prefix.1 in
       omega (arith, still, few, long)
 
 module _ {D : Type 0} {g : _} (m : Meaning D) (s t s' t' : Pump D g) (p q p' q' : Past) (l : Left m s t p q) (l' : Left m s' t' p' q')
     (lawful : IsLawful p.world) (lawful' : IsLawful p'.world) (before : IsLinked p.world p'.world) (after : IsLinked p.world q'.world) where
   linked_to : (w : World) → (w ≡ p'.world) ⊎ (w ≡ q'.world) → (kept : Bool) → IsPrefixOf (with_kept kept w.storing w.accepted) p.world.received
-  linked_to w (inl e) kept = subst (λ (x : World). IsPrefixOf (with_kept kept x.storing x.accepted) p.world.received) (sym e) (front_then _ _ _ (kept_most kept p'.world.storing p'.world.accepted) before)
-  linked_to w (inr e) kept = subst (λ (x : World). IsPrefixOf (with_kept kept x.storing x.accepted) p.world.received) (sym e) (front_then _ _ _ (kept_most kept q'.world.storing q'.world.accepted) after)
+  linked_to w (inl e) kept = subst (λ (x : World). IsPrefixOf (with_kept kept x.storing x.accepted) p.world.received) (sym e) (prefix_then _ _ _ (kept_most kept p'.world.storing p'.world.accepted) before)
+  linked_to w (inr e) kept = subst (λ (x : World). IsPrefixOf (with_kept kept x.storing x.accepted) p.world.received) (sym e) (prefix_then _ _ _ (kept_most kept q'.world.storing q'.world.accepted) after)
 
   lawful_of : (v x w : World) → IsLawful v → IsLawful x → (w ≡ v) ⊎ (w ≡ x) → IsLawful w
   lawful_of v x w one other either = ⊎_elim (λ (e : w ≡ v). subst IsLawful (sym e) one) (λ (e : w ≡ x). subst IsLawful (sym e) other) either
 
-  pub fronts : LeaveFronts m s t s' t'
+  pub prefixes : LeavePrefixes m s t s' t'
   unfolding tell_lists
-  fronts told low high recv low' high' recv' since_low since_high since_recv since_low' since_high' since_recv' =
+  prefixes told low high recv low' high' recv' since_low since_high since_recv since_low' since_high' since_recv' =
       let (w, is_w, fit_w, still) = which_low (row_of s) p q low (low_since m s t p q l told low since_low) in
       let (x, is_x, fit_x) = which (HighFits (row_of s)) p.world q.world high (high_since m s t p q l told high since_high) in
       let (v, is_v, fit_v) = which (RecvFits (row_of s)) p.world q.world recv (recv_since m s t p q l told recv since_recv) in
@@ -289,9 +289,9 @@ module _ {D : Type 0} {g : _} (m : Meaning D) (s t s' t' : Pump D g) (p q p' q' 
       let b' = high_case (row_of s') x' high' fit_x' in
       let r' = recv_case (row_of s') v' recv' fit_v' in
       let taken : IsPrefixOf (with_kept (r.0 && v.taking) v.packet v.received) (with_kept a.0 w.storing w.accepted) =
-      front_then _ p.world.accepted _ (received_to p.world q.world lawful l.lawful l.moves v r.0 is_v) (accepted_from p.world q.world lawful l.lawful l.moves w a.0 is_w) in
+      prefix_then _ p.world.accepted _ (received_to p.world q.world lawful l.lawful l.moves v r.0 is_v) (accepted_from p.world q.world lawful l.lawful l.moves w a.0 is_w) in
       let taken' : IsPrefixOf (with_kept (r'.0 && v'.taking) v'.packet v'.received) (with_kept a'.0 w'.storing w'.accepted) =
-      front_then _ p'.world.accepted _ (received_to p'.world q'.world lawful' l'.lawful l'.moves v' r'.0 is_v') (accepted_from p'.world q'.world lawful' l'.lawful l'.moves w' a'.0 is_w') in (
+      prefix_then _ p'.world.accepted _ (received_to p'.world q'.world lawful' l'.lawful l'.moves v' r'.0 is_v') (accepted_from p'.world q'.world lawful' l'.lawful l'.moves w' a'.0 is_w') in (
         record {
           accepted = with_kept a.0 w.storing w.accepted;
           received = with_kept (r.0 && v.taking) v.packet v.received;
@@ -301,7 +301,7 @@ module _ {D : Type 0} {g : _} (m : Meaning D) (s t s' t' : Pump D g) (p q p' q' 
           next_tell = tell_lists (row_of s') w' x' v' low' high' recv' a' b' r' (removed_before p'.world q'.world l'.moves lawful' l'.lawful w' v' r'.0 still' is_v') taken';
           taken = taken;
           next_taken = taken';
-          sent_on = front_then _ p.world.received _ (linked_to w' is_w' a'.0) (received_from p.world q.world lawful l.lawful l.moves v r.0 is_v);
+          sent_on = prefix_then _ p.world.received _ (linked_to w' is_w' a'.0) (received_from p.world q.world lawful l.lawful l.moves v r.0 is_v);
         },
         (λ image.
             let last = l.last told recv image in

@@ -30,7 +30,7 @@ use Rattle.pump_chain.specs.Opening.{trio_of, StandFor, HaveRoom, disk_in, is_fa
 use Rattle.pump_chain.specs.declared.not_chained.ChainWhy.{ChainWhy}
 use Rattle.pump_chain.specs.declared.not_chained.ChainWhy.TheVariants as reasons
 use Rattle.pump_chain.specs.declared.six.Six.{Six}
-use Rattle.pump_chain.proofs.Comparing.{differ_first, front_alike, front_short}
+use Rattle.pump_chain.proofs.Comparing.{differ_first, prefix_alike, prefix_short}
 
 -- ---- roles ----
 
@@ -250,11 +250,11 @@ module _ {D : Type 0} (m : Meaning D) where
   -- where the lists are linked, only a device ends the comparison
   pub excused_by : {g : _} (first last second final : Pump D g) (accepted received : List Payload) → IsPrefixOf accepted received
       → (why : ChainWhy) → AreRead m first last second final why → (is_by_device why ≡ false → IsUnlinked accepted received why) → IsExcused why
-  excused_by first last second final accepted received front reasons.Memory e u = tt
-  excused_by first last second final accepted received front (reasons.Pump session role why) (inl (number, at, x, y, is)) u = ap is_device is
-  excused_by first last second final accepted received front (reasons.Pump session role why) (inr (number, at, x, y, is)) u = ap is_device is
-  excused_by first last second final accepted received front (reasons.Link count bound) e u =
+  excused_by first last second final accepted received prefix reasons.Memory e u = tt
+  excused_by first last second final accepted received prefix (reasons.Pump session role why) (inl (number, at, x, y, is)) u = ap is_device is
+  excused_by first last second final accepted received prefix (reasons.Pump session role why) (inr (number, at, x, y, is)) u = ap is_device is
+  excused_by first last second final accepted received prefix (reasons.Link count bound) e u =
       let (have, has, over) = u refl in
-      let short = front_short accepted received front in
+      let short = prefix_short accepted received prefix in
       absurd (omega (arith, have, has, over, short))
-  excused_by first last second final accepted received front (reasons.Unlike number) e u = front_alike accepted received number front (u refl).1
+  excused_by first last second final accepted received prefix (reasons.Unlike number) e u = prefix_alike accepted received number prefix (u refl).1

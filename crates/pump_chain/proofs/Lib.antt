@@ -6,7 +6,7 @@ pub mod Counting
 pub mod Crashing
 pub mod Ending
 pub mod Failing
-pub mod Fronts
+pub mod Prefixes
 pub mod Linking
 pub mod Moving
 pub mod Owning

@@ -35,7 +35,7 @@ use Rattle.two_worlds.specs.States.{disks_in, StandsIn}
 use Rattle.two_worlds.proofs.Low.Grows.{look_grows, payloads}
 use Rattle.pump_chain.specs.Chained.{message_of, is_look}
 use Rattle.pump_chain.specs.Standing.{IsSentOn, IsLinked}
-use Rattle.pump_chain.proofs.Fronts.{front_same, front_then, front_next}
+use Rattle.pump_chain.proofs.Prefixes.{prefix_same, prefix_then, prefix_next}
 use Rattle.pump_chain.proofs.Moving.{Above, Upper, IsLostBy, look_goes, return_goes, carry_goes, done_goes, receiver_restart_goes, breaks_case}
 
 -- ---- what the history counts ----
@@ -65,26 +65,26 @@ first_sent received false (a ∷ waits) all = All-head (IsSentOn received) a wai
 -- a frame with the next message, that was sent on, has the first one that is not accepted
 stored : (row : SessionRow) (greeted : Bool) (accepted received : List Payload) (n : ℕ) (a : Arrival) → IsFrame (is_next row (length accepted) greeted) a → IsSentOn received a
     → IsPrefixOf accepted received → IsPrefixOf (accepted ++ payloads (Some n) a) received
-stored row greeted accepted received n (Came f) next sent front =
+stored row greeted accepted received n (Came f) next sent prefix =
     let parts = and_parts (is_fit row greeted f) (f.number == length accepted) (and_parts (is_fit row greeted f && f.number == length accepted) (nat_lt (length accepted) (2 ^ 48)) next).0 in
     let number = eqb-true f.number (length accepted) parts.1 in
     let fit = and_parts (is_data f.kind && greeted && f.session == row.id) (nat_le (length f.payload) row.message) parts.0 in
     let is = (and_parts (is_data f.kind) greeted (and_parts (is_data f.kind && greeted) (f.session == row.id) fit.0).0).0 in
-    front_next accepted received f.payload front (subst (λ (k : ℕ). slice_get received k ≡ Some f.payload) number (sent is))
-stored row greeted accepted received n Nothing next sent front = absurd next
-stored row greeted accepted received n Bad next sent front = absurd next
-stored row greeted accepted received n Gone next sent front = absurd next
+    prefix_next accepted received f.payload prefix (subst (λ (k : ℕ). slice_get received k ≡ Some f.payload) number (sent is))
+stored row greeted accepted received n Nothing next sent prefix = absurd next
+stored row greeted accepted received n Bad next sent prefix = absurd next
+stored row greeted accepted received n Gone next sent prefix = absurd next
 
-module _ (row : SessionRow) (p : Past) (x : Look) (received : List Payload) (counts : CountsAccepted row p) (front : IsPrefixOf p.world.accepted received) (sent : IsSentOn received x.arrival) where
+module _ (row : SessionRow) (p : Past) (x : Look) (received : List Payload) (counts : CountsAccepted row p) (prefix : IsPrefixOf p.world.accepted received) (sent : IsSentOn received x.arrival) where
   none : (a : Arrival) → IsPrefixOf (p.world.accepted ++ payloads None a) received
-  none a = front_then _ p.world.accepted received (front_same _ _ (append-nil p.world.accepted)) front
+  none a = prefix_then _ p.world.accepted received (prefix_same _ _ (append-nil p.world.accepted)) prefix
 
   -- the look begins a part in which a message is stored, or tried to be, after these parts
   begun : (first : Look) (before : List Part) (greeted : Bool) → IsCut row p.history.life before → x ≡ first → IsFrame (is_next row (count_after p.history.life.opening before) greeted) first.arrival
       → (n : ℕ) → IsPrefixOf (p.world.accepted ++ payloads (Some n) x.arrival) received
   begun first before greeted cut same next n =
       let here = subst (λ (y : Look). IsFrame (is_next row (count_after p.history.life.opening before) greeted) y.arrival) (sym same) next in
-      stored row greeted p.world.accepted received n x.arrival (subst (λ (k : ℕ). IsFrame (is_next row k greeted) x.arrival) (counts before cut) here) sent front
+      stored row greeted p.world.accepted received n x.arrival (subst (λ (k : ℕ). IsFrame (is_next row k greeted) x.arrival) (counts before cut) here) sent prefix
 
   accepts : (after : List Part) → IsCut row (looked p.history x).life after → IsPrefixOf (p.world.accepted ++ payloads (stores after) x.arrival) received
   accepts (Offering first [] ∷ before) cut =
@@ -105,7 +105,7 @@ module _ (row : SessionRow) (p : Past) (x : Look) (received : List Payload) (cou
   accepts (Loss first rest ∷ before) cut = none x.arrival
 
   pub look_accepts : (q : Past) (printed : List Printed) → IsLook row p x q printed → IsPrefixOf q.world.accepted received
-  look_accepts q printed i = front_then q.world.accepted _ received (front_same _ _ (look_grows x.feedback _ x.arrival i.new p.world q.world i.world).accepted) (accepts i.after i.cut_with)
+  look_accepts q printed i = prefix_then q.world.accepted _ received (prefix_same _ _ (look_grows x.feedback _ x.arrival i.new p.world q.world i.world).accepted) (accepts i.after i.cut_with)
 
   pub lost_accepts : (q : Past) (printed : List Printed) → IsLostLook row p x q printed → IsLinked (record p.world { received = received }) q.world
   lost_accepts q printed l =
@@ -170,18 +170,18 @@ module _ (received : List Payload) where
   after_look true waits all = All-drop (IsSentOn received) 1 waits all
   after_look false waits all = all
 
-  -- after a line all that waits is sent on still, and what is accepted is a front of what was received
+  -- after a line all that waits is sent on still, and what is accepted is a prefix of what was received
   pub record Sent (row : SessionRow) (p q : Past) : Type 0 where
     pub waits : AreSent p.waits → AreSent q.waits
     pub accepted : CountsAccepted row p → AreSent p.waits → IsPrefixOf p.world.accepted received → IsPrefixOf q.world.accepted received
 
   same_accepted : (p q : Past) → q.world.accepted ≡ p.world.accepted → IsPrefixOf p.world.accepted received → IsPrefixOf q.world.accepted received
-  same_accepted p q e front = front_then q.world.accepted p.world.accepted received (front_same _ _ e) front
+  same_accepted p q e prefix = prefix_then q.world.accepted p.world.accepted received (prefix_same _ _ e) prefix
 
   by_upper : (row : SessionRow) (p q : Past) → Upper p q → Sent row p q
   by_upper row p q u = record {
     waits = same_sent p.waits q.waits u.waits;
-    accepted = λ counts sent front. same_accepted p q u.world.accepted front;
+    accepted = λ counts sent prefix. same_accepted p q u.world.accepted prefix;
   }
 
   pub line_sent : (row : SessionRow) (p : Past) (line : Line) (q : Past) (printed : List Printed) → AddsOf received line → LineStep row p line q printed → Sent row p q
@@ -193,12 +193,12 @@ module _ (received : List Payload) where
   line_sent row p (lines.Step session m w) q printed of h = absurd h
   line_sent row p (lines.Look session m w a) q printed of (c, comes, (few, (f, i))) = record {
     waits = λ all. same_sent _ q.waits i.waits (after_look (takes i.after) (joined p c).waits (joined_sent session p a c comes of all));
-    accepted = λ counts sent front.
-        look_accepts row (joined p c) _ received counts front (first_sent received p.is_broken (joined p c).waits (joined_sent session p a c comes of sent)) q printed i;
+    accepted = λ counts sent prefix.
+        look_accepts row (joined p c) _ received counts prefix (first_sent received p.is_broken (joined p c).waits (joined_sent session p a c comes of sent)) q printed i;
   }
   line_sent row p (lines.Gone session m) q printed of (f, i) = record {
     waits = λ all. same_sent _ q.waits i.waits (after_look (takes i.after) [] (All-nil (IsSentOn received)));
-    accepted = λ counts sent front. look_accepts row (lost p) _ received counts front tt q printed i;
+    accepted = λ counts sent prefix. look_accepts row (lost p) _ received counts prefix tt q printed i;
   }
   line_sent row p (lines.High session m) q printed of h = by_upper row p q (look_goes row false p m None q printed h)
   line_sent row p (lines.Carry session back) q printed of h = by_upper row p q (carry_goes row p back q printed h)
@@ -206,20 +206,20 @@ module _ (received : List Payload) where
   line_sent row p (lines.Done session m t) q printed of h = by_upper row p q (done_goes row p m t q printed h)
   line_sent row p (lines.Restart session m) q printed of (h, e, f) = record {
     waits = λ all. same_sent [] q.waits (ap (λ (x : Past). x.waits) e) (All-nil (IsSentOn received));
-    accepted = λ counts sent front. same_accepted p q (ap (λ (v : World). v.accepted) h) front;
+    accepted = λ counts sent prefix. same_accepted p q (ap (λ (v : World). v.accepted) h) prefix;
   }
   line_sent row p (lines.ReceiverRestart session m) q printed of h = by_upper row p q (receiver_restart_goes row p m q printed h)
 
   -- where a disk fails, no store is unfinished but of such a message
   still_linked : (p q : World) → Above p q → IsPrefixOf (with_kept true p.storing p.accepted) received → IsPrefixOf (with_kept true q.storing q.accepted) received
-  still_linked p q a front = subst (λ (l : List Payload). IsPrefixOf l received) (λ i. with_kept true (sym a.storing i) (sym a.accepted i)) front
+  still_linked p q a prefix = subst (λ (l : List Payload). IsPrefixOf l received) (λ i. with_kept true (sym a.storing i) (sym a.accepted i)) prefix
 
   pub breaks_sent : (row : SessionRow) (p : Past) (line : Line) (role : Role) (q : Past) (printed : List Printed) → AddsOf received line → Breaks row p line role q printed → CountsAccepted row p → AreSent p.waits
       → IsPrefixOf p.world.accepted received → IsPrefixOf (with_kept true p.world.storing p.world.accepted) received → IsPrefixOf (with_kept true q.world.storing q.world.accepted) received
-  breaks_sent row p line role q printed of h counts sent front linked = ⊎_elim
+  breaks_sent row p line role q printed of h counts sent prefix linked = ⊎_elim
       (λ (above : Above p.world q.world). still_linked p.world q.world above linked)
       (λ (by : IsLostBy row p line q printed).
       let (session, m, w, a, e, (c, comes, few, l)) = by in
       let of_look : IsAddedOf received a = subst (AddsOf received) e of in
-      lost_accepts row (joined p c) _ received counts front (first_sent received p.is_broken (joined p c).waits (joined_sent session p a c comes of_look sent)) q printed l)
+      lost_accepts row (joined p c) _ received counts prefix (first_sent received p.is_broken (joined p c).waits (joined_sent session p a c comes of_look sent)) q printed l)
       (breaks_case row p line role q printed h)

@@ -22,7 +22,7 @@ use Rattle.script_reader.specs.Lows.{IsLook}
 use Rattle.script_reader.specs.Restarts.{IsRestart, IsReceiverRestart}
 use Rattle.script_reader.specs.Steps.{LineComing, Arrives, joined, lost, IsCarriedBack, IsDone, LineStep, Overfills}
 use Rattle.two_worlds.proofs.Low.Grows.{look_grows}
-use Rattle.pump_chain.proofs.Fronts.{front_same, front_more, front_then}
+use Rattle.pump_chain.proofs.Prefixes.{prefix_same, prefix_more, prefix_then}
 
 -- ---- above the passage ----
 
@@ -40,7 +40,7 @@ pub record Below (w v : World) : Type 0 where
   pub accepted : IsPrefixOf w.accepted v.accepted
 
 stays : (w : World) → Above w w
-stays w = record { accepted = refl; storing = refl; received = front_same w.received w.received refl }
+stays w = record { accepted = refl; storing = refl; received = prefix_same w.received w.received refl }
 
 by_same : (w v x : World) → v ≡ x → Above w x → Above w v
 by_same w v x e a = subst (Above w) (sym e) a
@@ -52,12 +52,12 @@ pub twice : (w u v : World) → Above w u → Above u v → Above w v
 twice w u v a b = record {
   accepted = b.accepted ∙ a.accepted;
   storing = b.storing ∙ a.storing;
-  received = front_then w.received u.received v.received a.received b.received;
+  received = prefix_then w.received u.received v.received a.received b.received;
 }
 
 -- a world with other hands, marks and packets
 aside : (w v x : World) → x.accepted ≡ w.accepted → x.storing ≡ w.storing → x.received ≡ w.received → v ≡ x → Above w v
-aside w v x accepted storing received e = by_same w v x e (record { accepted = accepted; storing = storing; received = front_same w.received x.received (sym received) })
+aside w v x accepted storing received e = by_same w v x e (record { accepted = accepted; storing = storing; received = prefix_same w.received x.received (sym received) })
 
 either : (b : Bool) (w v u : World) → Above w v → Above w u → Above w (cond b v u)
 either true w v u h k = h
@@ -65,7 +65,7 @@ either false w v u h k = k
 
 returns_go : (w : World) (back : Option ℕ) (v : World) → Returns w back v → Above w v
 returns_go w None v e = stays_same w v e
-returns_go w (Some k) v h = by_same w v _ h.3 (either (h.0 == w.removed && holds w.high_hand h.0) w _ w (record { accepted = refl; storing = refl; received = front_same _ _ refl }) (stays w))
+returns_go w (Some k) v h = by_same w v _ h.3 (either (h.0 == w.removed && holds w.high_hand h.0) w _ w (record { accepted = refl; storing = refl; received = prefix_same _ _ refl }) (stays w))
 
 perhaps_go : (w : World) (e : Event) (es : List Event) (v : World) → (Run w (e ∷ es) v → Above w v) → Perhaps w e es v → Above w v
 perhaps_go w e es v run h = ⊎_elim run (λ (o : ((x : World) → Happens w e x → ⊥) × (v ≡ w)). stays_same w v o.1) h
@@ -84,7 +84,7 @@ sends_go true w v h = aside w v _ refl refl refl h.5
 sends_go false w v e = stays_same w v e
 
 carries_go : (w : World) (k : ℕ) (v : World) → Happens w (CarryData k) v → Above w v
-carries_go w k v h = by_same w v _ h.4 (either (nat_lt h.0.number (length w.received)) w _ _ (record { accepted = refl; storing = refl; received = front_same _ _ refl }) (record { accepted = refl; storing = refl; received = front_same _ _ refl }))
+carries_go w k v h = by_same w v _ h.4 (either (nat_lt h.0.number (length w.received)) w _ _ (record { accepted = refl; storing = refl; received = prefix_same _ _ refl }) (record { accepted = refl; storing = refl; received = prefix_same _ _ refl }))
 
 begins_go : (w v : World) → Happens w TakeBegin v → Above w v
 begins_go w v h = aside w v _ refl refl refl h.3
@@ -93,7 +93,7 @@ takes_go : (w v : World) → Perhaps w TakeBegin (TakeEnd ∷ []) v → Above w 
 takes_go w v h = perhaps_go w TakeBegin (TakeEnd ∷ []) v by h
   where
     by : Run w (TakeBegin ∷ TakeEnd ∷ []) v → Above w v
-    by (a, b, (c, d, e)) = twice w a v (begins_go w a b) (by_same a v c e (by_same a c _ d.3 (record { accepted = refl; storing = refl; received = front_more a.received (d.0 ∷ []) })))
+    by (a, b, (c, d, e)) = twice w a v (begins_go w a b) (by_same a v c e (by_same a c _ d.3 (record { accepted = refl; storing = refl; received = prefix_more a.received (d.0 ∷ []) })))
 
 -- ---- sessions ----
 
@@ -161,7 +161,7 @@ look_below row p x q printed i =
     record { received = g.received; packet = g.packet; taking = g.taking; accepted = (_, sym g.accepted) }
 
 restart_below : (row : SessionRow) (p : Past) (m : ℕ) (q : Past) (printed : List Printed) → IsRestart row p m q printed → Below p.world q.world
-restart_below row p m q printed (h, e, f) = subst (Below p.world) (sym h) (record { received = refl; packet = refl; taking = refl; accepted = front_same _ _ refl })
+restart_below row p m q printed (h, e, f) = subst (Below p.world) (sym h) (record { received = refl; packet = refl; taking = refl; accepted = prefix_same _ _ refl })
 
 -- ---- lines ----
 
@@ -240,7 +240,7 @@ breaks_case row p (lines.High session m) role q printed h = absurd h
 pub breaks_move : (row : SessionRow) (p : Past) (line : Line) (role : Role) (q : Past) (printed : List Printed) → Breaks row p line role q printed → Moves p q
 breaks_move row p line role q printed h = ⊎_elim
     (λ (a : Above p.world q.world). inl a)
-    (λ (l : IsLostBy row p line q printed). let (session, m, w, a, e, (c, comes, few, lost)) = l in inr (subst (Below p.world) (sym lost.begins.2) (record { received = refl; packet = refl; taking = refl; accepted = front_same _ _ refl })))
+    (λ (l : IsLostBy row p line q printed). let (session, m, w, a, e, (c, comes, few, lost)) = l in inr (subst (Below p.world) (sym lost.begins.2) (record { received = refl; packet = refl; taking = refl; accepted = prefix_same _ _ refl })))
     (breaks_case row p line role q printed h)
 
 pub overfills_move : (row : SessionRow) (p : Past) (line : Line) (q : Past) (printed : List Printed) (end k size : ℕ) → Overfills row p line q printed end k size → Upper p q

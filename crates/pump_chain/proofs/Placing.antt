@@ -28,7 +28,7 @@ use Rattle.two_worlds.proofs.Opening.Ready.{recv_reading}
 use Rattle.two_worlds.proofs.Opening.Working.{works_of}
 use Rattle.pump_chain.specs.declared.place.Place.{Place}
 use Rattle.pump_chain.specs.Keeping.{KnowsPlace, Keeps}
-use Rattle.pump_chain.proofs.Fronts.{front_same, front_then}
+use Rattle.pump_chain.proofs.Prefixes.{prefix_same, prefix_then}
 use Rattle.pump_chain.proofs.Moving.{Above, Below, Moves, line_moves, overfills_move}
 
 -- ---- lists ----
@@ -89,20 +89,20 @@ stands_up m (Shut d) p s = absurd s
 some : {D : Type 0} {g : _} (s : Pump D g) → g.told.tells → is_down s ≡ false → ∥ ((p : Past) × StandsFor g.told s p) ∥₁
 some {D} {g} s told up = able_stands g.told s.state (kept_able g.told s.state up s.keeps) told
 
-moved_front : (p q : Past) → Moves p q → IsPrefixOf p.world.received q.world.received
-moved_front p q m = ⊎_elim (λ (a : Above p.world q.world). a.received) (λ (b : Below p.world q.world). front_same p.world.received q.world.received (sym b.received)) m
+moved_prefix : (p q : Past) → Moves p q → IsPrefixOf p.world.received q.world.received
+moved_prefix p q m = ⊎_elim (λ (a : Above p.world q.world). a.received) (λ (b : Below p.world q.world). prefix_same p.world.received q.world.received (sym b.received)) m
 
 -- the receiver's list after a line grows from the list before it, whatever the pump then stands for
 module _ {D : Type 0} {g : _} (s t : Pump D g) (line : ScriptLine) (printed : List Printed) (p q : Past) (told : g.told.tells) (was : StandsFor g.told s p) (is : StandsFor g.told t q) where
   grows : (stop : Option Stop) → Applies g.told s t line p printed stop → IsPrefixOf p.world.received q.world.received
   grows None (timely, (r, step, stands, leaves, timed)) =
-      front_then p.world.received r.world.received q.world.received (moved_front p r (line_moves (row_of s) p line r printed step))
-      (front_same _ _ (state_received g.told t.state r q told stands is))
-  grows (Some Line) (refused, none, e) = front_same _ _ (state_received g.told s.state p q told was (subst (λ (x : Pump D g). StandsFor g.told x q) e is))
+      prefix_then p.world.received r.world.received q.world.received (moved_prefix p r (line_moves (row_of s) p line r printed step))
+      (prefix_same _ _ (state_received g.told t.state r q told stands is))
+  grows (Some Line) (refused, none, e) = prefix_same _ _ (state_received g.told s.state p q told was (subst (λ (x : Pump D g). StandsFor g.told x q) e is))
   grows (Some (Device role faults)) (timely, (r, breaks, (down, fails), leaves)) = (let up = stands_up g.told t.state q is in absurd (cc))
   grows (Some (Full end k size)) (timely, (r, over, stands, leaves)) =
-      front_then p.world.received r.world.received q.world.received (overfills_move (row_of s) p line r printed end k size over).world.received
-      (front_same _ _ (state_received g.told t.state r q told stands is))
+      prefix_then p.world.received r.world.received q.world.received (overfills_move (row_of s) p line r printed end k size over).world.received
+      (prefix_same _ _ (state_received g.told t.state r q told stands is))
   grows (Some (Disk role why)) a = absurd a
 
 module _ {D : Type 0} {g : _} (s t : Pump D g) (up : is_down s ≡ false) (place : Place) where

@@ -20,8 +20,8 @@ use Rattle.pump_chain.specs.declared.chain.Chain.{Chain}
 use Rattle.pump_chain.specs.declared.sender.Sender.{Sender}
 use Rattle.pump_chain.specs.Chained.{Chained, OfSecond, added, accepted_of, received_of, is_in_order, is_frame, is_welcome, is_reply}
 use Rattle.pump_chain.specs.Private.{AddsMessage}
-use Rattle.pump_chain.specs.Standing.{ChainStands, ChainStandsOrFails, AppliesBy, LeaveFronts}
-use Rattle.pump_chain.proofs.Applying.{second_applies, second_fronts, read_fronts}
+use Rattle.pump_chain.specs.Standing.{ChainStands, ChainStandsOrFails, AppliesBy, LeavePrefixes}
+use Rattle.pump_chain.proofs.Applying.{second_applies, second_prefixes, read_prefixes}
 use Rattle.pump_chain.proofs.Counting.{Goes, serves_rose}
 use Rattle.pump_chain.proofs.Crashing.{Left, left_alone, left_read}
 use Rattle.pump_chain.proofs.Linking.{AddsOf, IsAddedOf, message_added}
@@ -91,8 +91,8 @@ module _ {D : Type 0} {g : _} (m : Meaning D) (s : Chain D g) (c : Chained) (S :
     (serves_rose m _ _ _ fails.alone.serves, count),
   )
 
-  pub unread_fronts : (t : Chain D g) → FailsReading m roles.Recv s.first t.first → t.second ≡ s.second → LeaveFronts m s.first t.first s.second t.second
-  unread_fronts t fails second = read_fronts m s t.first t.second c S (left_read m s.first t.first c.first.past true S.first fails.alone) second
+  pub unread_prefixes : (t : Chain D g) → FailsReading m roles.Recv s.first t.first → t.second ≡ s.second → LeavePrefixes m s.first t.first s.second t.second
+  unread_prefixes t fails second = read_prefixes m s t.first t.second c S (left_read m s.first t.first c.first.past true S.first fails.alone) second
 
   -- u is the chain as the look finds it
   module _ (u : Chain D g) (reads : ReadsOn m roles.Recv s.first u.first) (second : u.second ≡ s.second) (sender : u.sender ≡ s.sender) (way : u.is_under_way ≡ s.is_under_way) (given : ScriptLine) (session moment word : ℕ)
@@ -111,7 +111,7 @@ module _ {D : Type 0} {g : _} (m : Meaning D) (s : Chain D g) (c : Chained) (S :
         (subst (λ (x : Pump D g). Left m s.first x c.first.past c.first.past) (sym first) (left_read m s.first u.first c.first.past false S.first reads.alone)) stop order made refused go
         (subst (λ (line : ScriptLine). Applies m u.second t.second line c.second.past printed stop) same applies)
 
-    pub look_fronts : (two : Pump D g) → Applies m u.second two given c.second.past printed stop → row_of two ≡ row_of u.second → LeaveFronts m s.first u.first s.second two
-    look_fronts two applies row =
-        second_fronts m s u u.first two c look printed stop S U (left_read m s.first u.first c.first.past false S.first reads.alone) second row refl (adds_of c session moment word)
+    pub look_prefixes : (two : Pump D g) → Applies m u.second two given c.second.past printed stop → row_of two ≡ row_of u.second → LeavePrefixes m s.first u.first s.second two
+    look_prefixes two applies row =
+        second_prefixes m s u u.first two c look printed stop S U (left_read m s.first u.first c.first.past false S.first reads.alone) second row refl (adds_of c session moment word)
         (subst (λ (line : ScriptLine). Applies m u.second two line c.second.past printed stop) same applies)

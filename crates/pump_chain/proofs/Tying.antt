@@ -17,7 +17,7 @@ use Rattle.pump_chain.specs.Scripted.{chain_of}
 use Rattle.pump_chain.specs.Standing.{IsSentOn}
 use Rattle.pump_chain.proofs.Applying.{moves_on, still_sent}
 use Rattle.pump_chain.proofs.Counted.{line_counts, new_counts}
-use Rattle.pump_chain.proofs.Fronts.{front_then}
+use Rattle.pump_chain.proofs.Prefixes.{prefix_then}
 use Rattle.pump_chain.proofs.Linking.{CountsAccepted, AddsOf, IsAddedOf, line_sent}
 use Rattle.pump_chain.proofs.Moving.{line_moves}
 use Rattle.pump_chain.proofs.Stepping.{added_of}
@@ -63,21 +63,21 @@ pub record IsFresh (p : Past) : Type 0 where
 pub record Tied (c : Chained) : Type 0 where
   pub counts : CountsAccepted c.second.row c.second.past
   pub waits : All (IsSentOn (received_of c)) c.second.past.waits
-  pub front : IsPrefixOf c.second.past.world.accepted (received_of c)
+  pub prefix : IsPrefixOf c.second.past.world.accepted (received_of c)
   pub fresh : c.is_under_way ≡ false → IsFresh c.second.past
 
 by_share : (c : Chained) (share : Share) → ShareAdds (received_of c) share → Tied c → (d : Chained) (printed : List Event) → LeadsBy c share d printed → Tied d
 by_share c Skipped adds t d printed (e, f) = subst Tied (sym e) t
 by_share c OfNone adds t d printed leads = absurd leads
-by_share c MakesFirst adds t d printed (way, fine, e, f) = subst Tied (sym e) (record { counts = t.counts; waits = t.waits; front = t.front; fresh = t.fresh })
+by_share c MakesFirst adds t d printed (way, fine, e, f) = subst Tied (sym e) (record { counts = t.counts; waits = t.waits; prefix = t.prefix; fresh = t.fresh })
 by_share c MakesSecond adds t d printed (way, fine, e, f) =
-    subst Tied (sym e) (record { counts = new_counts _ c.second.past (t.fresh way).looks (t.fresh way).count; waits = t.waits; front = t.front; fresh = t.fresh })
+    subst Tied (sym e) (record { counts = new_counts _ c.second.past (t.fresh way).looks (t.fresh way).count; waits = t.waits; prefix = t.prefix; fresh = t.fresh })
 by_share c (OfFirst line) adds t d printed (order, (q, goes, e)) =
     let more = moves_on c.first.past q (line_moves c.first.row c.first.past line q printed goes.1) in
     subst Tied (sym e) (record {
       counts = t.counts;
       waits = still_sent (received_of c) q.world.received c.second.past.waits more t.waits;
-      front = front_then c.second.past.world.accepted (received_of c) q.world.received t.front more;
+      prefix = prefix_then c.second.past.world.accepted (received_of c) q.world.received t.prefix more;
       fresh = λ x. absurd (cc);
     })
 by_share c (OfSecond line) adds t d printed (order, (q, goes, e)) =
@@ -85,7 +85,7 @@ by_share c (OfSecond line) adds t d printed (order, (q, goes, e)) =
     subst Tied (sym e) (record {
       counts = line_counts c.second.row c.second.past line q printed goes.1 t.counts;
       waits = sent.waits t.waits;
-      front = sent.accepted t.counts t.waits t.front;
+      prefix = sent.accepted t.counts t.waits t.prefix;
       fresh = λ x. absurd (cc);
     })
 
@@ -96,11 +96,11 @@ tied_on c (line ∷ later) d printed (mid, first, second, leads, rest, e) t =
 
 pub tied_always : (o : Openings) (one two : SessionRow) (script : List Line) (d : Chained) (printed : List Event) → IsPrefixOf (accepted_in (o two.id)) (o one.id).received
     → ChainLeadsTo (chain_of o one two) script d printed → Tied d
-tied_always o one two script d printed front leads =
+tied_always o one two script d printed prefix leads =
     let p = (chain_of o one two).second.past in
     tied_on (chain_of o one two) script d printed leads (record {
       counts = new_counts two p refl refl;
       waits = All-nil (IsSentOn (o one.id).received);
-      front = front;
+      prefix = prefix;
       fresh = λ x. record { looks = refl; count = refl };
     })

@@ -1,5 +1,6 @@
 -- Two pumps in a row: what they have been through, and what a line of a script is to them.
-use Rattle.std.specs.Prelude.{◌≡◌, ◌⊎◌, ℕ, Bool, true, false, ◌||◌, ◌&&◌, ◌==◌, not, max, if◌then◌else◌, List, [], ◌∷◌, ◌++◌, length, slice_get, Option, Some, None}
+use Rattle.std.specs.Prelude.{◌≡◌, ◌⊎◌, ℕ, Bool, true, false, ◌||◌, ◌&&◌, ◌==◌, not, max, if◌then◌else◌, List, [], ◌∷◌}
+use Rattle.std.specs.Prelude.{◌++◌, length, slice_get, Option, Some, None}
 use Rattle.std.specs.List.{list_any}
 use Rattle.pump_frame.specs.declared.frame.Kind.{Kind}
 use Rattle.pump_frame.specs.declared.frame.Kind.TheVariants as kinds
@@ -117,15 +118,18 @@ share_by first second adds (lines.Session row) = OfNone
 share_by first second adds (lines.LowSession row next held) = OfNone
 share_by first second adds (lines.Told session m w fault told a) = OfNone
 share_by first second adds (lines.Coarse session) = share_of first second session MakesFirst MakesSecond
-share_by first second adds (lines.Look session m w a) = if session == first then OfFirst (lines.Look session m w a) else OfNone
-share_by first second adds (lines.Step session m w) = if session == second then OfSecond (lines.Look session m w adds) else OfNone
+share_by first second adds (lines.Look session m w a) = if session == first then OfFirst (lines.Look session m w a) else
+    OfNone
+share_by first second adds (lines.Step session m w) = if session == second then OfSecond (lines.Look session m w adds)
+    else OfNone
 share_by first second adds (lines.Gone session m) = by_session first second session (lines.Gone session m)
 share_by first second adds (lines.High session m) = by_session first second session (lines.High session m)
 share_by first second adds (lines.Carry session back) = by_session first second session (lines.Carry session back)
 share_by first second adds (lines.Return session m back) = by_session first second session (lines.Return session m back)
 share_by first second adds (lines.Done session m t) = by_session first second session (lines.Done session m t)
 share_by first second adds (lines.Restart session m) = by_session first second session (lines.Restart session m)
-share_by first second adds (lines.ReceiverRestart session m) = by_session first second session (lines.ReceiverRestart session m)
+share_by first second adds (lines.ReceiverRestart session m) = by_session first second session
+    (lines.ReceiverRestart session m)
 
 abbrev pub share : Chained → Line → Share
 share c line = share_by c.first.row.id c.second.row.id (added c) line
@@ -151,7 +155,11 @@ abbrev pub first_led : Chained → Past → Chained
 first_led c q = record c { first = with_past c.first q; is_under_way = true }
 
 abbrev pub second_led : Chained → Line → List Event → Past → Chained
-second_led c line printed q = record c { second = with_past c.second q; sender = sender_after c.sender line printed; is_under_way = true }
+second_led c line printed q = record c {
+  second = with_past c.second q;
+  sender = sender_after c.sender line printed;
+  is_under_way = true;
+}
 
 -- the line can be applied, leads from c to d, and prints this: it does to its session what it does in a script of that
 -- session alone; and a session that is not coarse is made so before all that is done with either
@@ -159,11 +167,15 @@ abbrev pub LeadsBy : Chained → Share → Chained → List Event → Type 0
 LeadsBy c Skipped d printed = (d ≡ c) × (printed ≡ [])
 LeadsBy c OfNone d printed = ⊥
 LeadsBy c MakesFirst d printed =
-    (c.is_under_way ≡ false) × (c.first.row.coarse ≡ false) × (d ≡ record c { first = with_coarse c.first }) × (printed ≡ [])
+    (c.is_under_way ≡ false) × (c.first.row.coarse ≡ false) × (d ≡ record c { first = with_coarse c.first })
+    × (printed ≡ [])
 LeadsBy c MakesSecond d printed =
-    (c.is_under_way ≡ false) × (c.second.row.coarse ≡ false) × (d ≡ record c { second = with_coarse c.second }) × (printed ≡ [])
-LeadsBy c (OfFirst line) d printed = (is_in_order c line ≡ true) × ((q : Past) × Goes c.first line q printed × (d ≡ first_led c q))
-LeadsBy c (OfSecond line) d printed = (is_in_order c line ≡ true) × ((q : Past) × Goes c.second line q printed × (d ≡ second_led c line printed q))
+    (c.is_under_way ≡ false) × (c.second.row.coarse ≡ false) × (d ≡ record c { second = with_coarse c.second })
+    × (printed ≡ [])
+LeadsBy c (OfFirst line) d printed = (is_in_order c line ≡ true) × ((q : Past) × Goes c.first line q printed
+    × (d ≡ first_led c q))
+LeadsBy c (OfSecond line) d printed = (is_in_order c line ≡ true) × ((q : Past) × Goes c.second line q printed
+    × (d ≡ second_led c line printed q))
 
 abbrev pub ChainLeads : Chained → Line → Chained → List Event → Type 0
 ChainLeads c line d printed = LeadsBy c (share c line) d printed

@@ -15,10 +15,12 @@ pub record DifferAt (from number : ℕ) (accepted received : List Payload) : Typ
   pub before : Agree from number accepted received
   pub unlike : slice_index_or accepted number [] ≡ slice_index_or received number [] → ⊥
 
--- the accepted list is no front of the received one: it is longer; or else it has this message otherwise, and those before
--- it alike
+-- the accepted list is no prefix of the received one: it is longer; or else it has this message otherwise, and those
+-- before it alike
 abbrev pub IsUnlinked : List Payload → List Payload → ChainWhy → Type 0
 IsUnlinked accepted received reasons.Memory = ⊥
 IsUnlinked accepted received (reasons.Pump session role why) = ⊥
-IsUnlinked accepted received (reasons.Link count bound) = (count ≡ length accepted) × (bound ≡ length received) × (bound < count)
-IsUnlinked accepted received (reasons.Unlike number) = (length accepted ≤ length received) × DifferAt 0 number accepted received
+IsUnlinked accepted received (reasons.Link count bound) = (count ≡ length accepted) × (bound ≡ length received)
+    × (bound < count)
+IsUnlinked accepted received (reasons.Unlike number) = (length accepted ≤ length received)
+    × DifferAt 0 number accepted received

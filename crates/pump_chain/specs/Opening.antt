@@ -53,23 +53,26 @@ is_failed role None = false
 is_failed role (Some failed) = is_role role failed
 
 -- each disk is as it was, or it was empty and is a new one; and a call of one failed, or none did
-pub record AreLeft {D : Type 0} (m : Meaning D) (row : SessionRow) (old new : Trio D) (failed : Option Role) : Type 0 where
-  pub low : LeavesDisk m row roles.Low old.low new.low (is_failed roles.Low failed)
-  pub high : LeavesDisk m row roles.High old.high new.high (is_failed roles.High failed)
-  pub recv : LeavesDisk m row roles.Recv old.recv new.recv (is_failed roles.Recv failed)
+pub record AreLeft {D : Type 0} (m : Meaning D) (row : SessionRow) (old new : Trio D) (failed : Option Role) : Type 0
+  where
+    pub low : LeavesDisk m row roles.Low old.low new.low (is_failed roles.Low failed)
+    pub high : LeavesDisk m row roles.High old.high new.high (is_failed roles.High failed)
+    pub recv : LeavesDisk m row roles.Recv old.recv new.recv (is_failed roles.Recv failed)
 
 -- a pump of the row was opened on them, and they come back from it: whatever crashes leave of them opens again
-pub record HandsBack {D : Type 0} (m : Meaning D) (row : SessionRow) (old new : Trio D) (failed : Option Role) : Type 0 where
-  pub found : m.tells → (f : Found) × StandFor m row old f
-  pub left : AreLeft m row old new failed
-  pub crashes : CrashesOpen m row new.low new.high new.recv
+pub record HandsBack {D : Type 0} (m : Meaning D) (row : SessionRow) (old new : Trio D) (failed : Option Role) : Type 0
+  where
+    pub found : m.tells → (f : Found) × StandFor m row old f
+    pub left : AreLeft m row old new failed
+    pub crashes : CrashesOpen m row new.low new.high new.recv
 
--- .. or no pump of the row is opened on them, for this cause, which is the first: memory was wanting, and no disk was called;
--- or its own opening refuses one
+-- .. or no pump of the row is opened on them, for this cause, which is the first: memory was wanting, and no disk was
+-- called; or its own opening refuses one
 abbrev pub IsUnopened : {D : Type 0} → Meaning D → SessionRow → Trio D → Trio D → ChainWhy → Type 0
 IsUnopened m row old new reasons.Memory = new ≡ old
 IsUnopened m row old new (reasons.Pump session role why) =
-    (session ≡ row.id) × ComeBack m row old.low old.high old.recv (record { role = role; why = Some why; low = new.low; high = new.high; recv = new.recv })
+    (session ≡ row.id) × ComeBack m row old.low old.high old.recv
+    (record { role = role; why = Some why; low = new.low; high = new.high; recv = new.recv })
 IsUnopened m row old new (reasons.Link count bound) = ⊥
 IsUnopened m row old new (reasons.Unlike number) = ⊥
 
@@ -81,26 +84,31 @@ cause_of session role (Some why) = reasons.Pump session role why
 -- ---- six disks ----
 
 -- both pumps were opened
-abbrev pub HandBoth : {D : Type 0} → Meaning D → SessionRow → SessionRow → Six D → Six D → Option Role → Option Role → Type 0
-HandBoth m one two old new first second = HandsBack m one old.first new.first first × HandsBack m two old.second new.second second
+abbrev pub HandBoth : {D : Type 0} → Meaning D → SessionRow → SessionRow → Six D → Six D → Option Role → Option Role
+    → Type 0
+HandBoth m one two old new first second = HandsBack m one old.first new.first first
+    × HandsBack m two old.second new.second second
 
--- a disk failed in the comparison, and its count is told: the first receiver's, or of the second pump the low one or the
--- receiver's
+-- a disk failed in the comparison, and its count is told: the first receiver's, or of the second pump the low one or
+-- the receiver's
 abbrev pub IsUnread : {D : Type 0} → Meaning D → SessionRow → SessionRow → Six D → Six D → ℕ → Role → Why → Type 0
 IsUnread m one two old new session role why =
-    ((session ≡ one.id) × (role ≡ roles.Recv) × HandBoth m one two old new (Some role) None × (why ≡ Device (m.count (disk_in role new.first))))
-    ⊎ ((session ≡ two.id) × ((role ≡ roles.Low) ⊎ (role ≡ roles.Recv)) × HandBoth m one two old new None (Some role) × (why ≡ Device (m.count (disk_in role new.second))))
+    ((session ≡ one.id) × (role ≡ roles.Recv) × HandBoth m one two old new (Some role) None
+    × (why ≡ Device (m.count (disk_in role new.first))))
+    ⊎ ((session ≡ two.id) × ((role ≡ roles.Low) ⊎ (role ≡ roles.Recv)) × HandBoth m one two old new None (Some role)
+    × (why ≡ Device (m.count (disk_in role new.second))))
 
--- both pumps were opened and compared, and make no chain for this cause: a disk failed; or else the second one has accepted
--- what the first receiver has not, or has otherwise
+-- both pumps were opened and compared, and make no chain for this cause: a disk failed; or else the second one has
+-- accepted what the first receiver has not, or has otherwise
 abbrev pub IsApart : {D : Type 0} → Meaning D → SessionRow → SessionRow → Six D → Six D → ChainWhy → Type 0
 IsApart m one two old new reasons.Memory = ⊥
 IsApart m one two old new (reasons.Pump session role why) = IsUnread m one two old new session role why
 IsApart m one two old new why = HandBoth m one two old new None None
-    × (m.tells → (f h : Found) → StandFor m one old.first f → StandFor m two old.second h → IsUnlinked (accepted_in h) f.received why)
+    × (m.tells → (f h : Found) → StandFor m one old.first f → StandFor m two old.second h
+    → IsUnlinked (accepted_in h) f.received why)
 
--- Six disks make no chain for this cause, and come back: the first pump is not opened, and the second one's disks are as they
--- were; or else the second one is not; or else the two are apart
+-- Six disks make no chain for this cause, and come back: the first pump is not opened, and the second one's disks are
+-- as they were; or else the second one is not; or else the two are apart
 abbrev pub ComeBackFor : {D : Type 0} → Meaning D → SessionRow → SessionRow → Six D → Six D → ChainWhy → Type 0
 ComeBackFor m one two old new why =
     (IsUnopened m one old.first new.first why × (new.second ≡ old.second))

@@ -7,7 +7,8 @@ use Rattle.script_reader.specs.declared.line.Line.{Line}
 use Rattle.script_reader.specs.declared.line.Line.TheVariants as lines
 use Rattle.script_reader.specs.Sessions.{moment_in, is_from}
 use Rattle.two_worlds.specs.Pumps.{kept_moment}
-use Rattle.pump_chain.specs.Chained.{Chained, added, Share, Skipped, OfFirst, OfSecond, MakesFirst, MakesSecond, OfNone, share_by}
+use Rattle.pump_chain.specs.Chained.{Chained, added, Share, Skipped, OfFirst, OfSecond, MakesFirst, MakesSecond, OfNone}
+use Rattle.pump_chain.specs.Chained.{share_by}
 use Rattle.pump_chain.specs.declared.chain.Chain.{Chain}
 use Rattle.pump_chain.specs.declared.whose.Whose.{Whose}
 use Rattle.pump_chain.specs.declared.whose.Whose.TheVariants as whose

@@ -30,7 +30,8 @@ as_look adds (lines.Step session m w) = lines.Look session m w adds
 as_look adds line = line
 
 -- the lines that led a chain, each step as the look that adds what the sender had when it came
-abbrev pub looks_of : (c : Chained) (script : List Line) (d : Chained) (printed : List Event) → ChainLeadsTo c script d printed → List Line
+abbrev pub looks_of : (c : Chained) (script : List Line) (d : Chained) (printed : List Event)
+    → ChainLeadsTo c script d printed → List Line
 looks_of c [] d printed leads = []
 looks_of c (line ∷ later) d printed leads = as_look (added c) line ∷ looks_of leads.0 later d leads.2 leads.4
 

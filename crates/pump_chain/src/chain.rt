@@ -35,7 +35,7 @@ impl<D: Disk> Chain<D> {
     ghost use Rattle.std.specs.Prelude.{◌≡◌, false};
     ghost use Rattle.pump_chain.specs.Chained.{Chained};
     ghost use Rattle.pump_chain.specs.Failing.{FailNoLess};
-    ghost use Rattle.pump_chain.specs.Standing.{ChainStands, ChainApplies, LeavesFronts, IsCounted, chain_is_down};
+    ghost use Rattle.pump_chain.specs.Standing.{ChainStands, ChainApplies, LeavesPrefixes, IsCounted, chain_is_down};
     ghost use Rattle.script_reader.specs.Heads.{line_with, CanHoldLine};
     ghost use Rattle.script_reader.specs.Lawful.{IsLawfulLine};
     ghost use Rattle.two_worlds.specs.LowPumps.{stops_at_disk};
@@ -50,7 +50,8 @@ impl<D: Disk> Chain<D> {
         requires up { chain_is_down self.old ≡ false }
         ensures applies { D.told.tells → (c : Chained) → ChainStands D.told self.old c
             → ChainApplies D.told self.old self.new line.now c result.events.items result.stop }
-        ensures crashes { D.told.tells → (c : Chained) → ChainStands D.told self.old c → LeavesFronts D.told self.old self.new }
+        ensures crashes { D.told.tells → (c : Chained) → ChainStands D.told self.old c
+            → LeavesPrefixes D.told self.old self.new }
         ensures device { IsCounted D.told self.old self.new line.now result.stop }
         ensures later { FailNoLess D.told self.old self.new }
         ensures down { chain_is_down self.new ≡ stops_at_disk result.stop }
@@ -75,8 +76,10 @@ impl<D: Disk> Chain<D> {
         requires room { CanHoldLine line.now bytes.now }
         requires up { chain_is_down self.old ≡ false }
         ensures applies { D.told.tells → (c : Chained) → ChainStands D.told self.old c
-            → ChainApplies D.told self.old self.new (line_with bytes.now line.now) c (lines_in events.new.items) result }
-        ensures crashes { D.told.tells → (c : Chained) → ChainStands D.told self.old c → LeavesFronts D.told self.old self.new }
+            → ChainApplies D.told self.old self.new (line_with bytes.now line.now) c (lines_in events.new.items)
+            result }
+        ensures crashes { D.told.tells → (c : Chained) → ChainStands D.told self.old c
+            → LeavesPrefixes D.told self.old self.new }
         ensures device { IsCounted D.told self.old self.new (line_with bytes.now line.now) result }
         ensures later { FailNoLess D.told self.old self.new }
         ensures down { chain_is_down self.new ≡ stops_at_disk result }

@@ -1,7 +1,8 @@
 //! The laws of a chain. Each is a function without parameters and without a result whose contract is the
 //! law; calling it does nothing.
 
-ghost use Rattle.pump_chain.specs.Laws.{ChainsAreScripts, FirstIsItsOwn, SecondIsItsOwn, SecondIsNoMatter, FourAreFronts};
+ghost use Rattle.pump_chain.specs.Laws.{ChainsAreScripts, FirstIsItsOwn, SecondIsItsOwn, SecondIsNoMatter};
+ghost use Rattle.pump_chain.specs.Laws.{FourArePrefixes};
 
 /// A chain is a script of two sessions: whatever lines lead it, with each `step` read as the look that
 /// adds what the sender had when it came, they are lines of such a script, in their turn, which leads each
@@ -33,8 +34,8 @@ pub fn second_pump_is_no_matter()
 /// Whatever lines lead a chain to, the second receiver's messages are the first ones that the second pump
 /// has accepted, these are the first ones that the first receiver has, and these the first ones that the
 /// first pump has accepted.
-pub fn four_lists_are_fronts()
-    ensures { FourAreFronts }
+pub fn four_lists_are_prefixes()
+    ensures { FourArePrefixes }
 {
     script_reader::transcripts_are_bounded();
     sessions_are_their_own();

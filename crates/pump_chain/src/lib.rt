@@ -11,7 +11,7 @@ mod whose;
 
 pub use chain::Chain;
 pub use laws::{
-    chains_are_scripts, four_lists_are_fronts, second_pump_is_no_matter, sessions_are_their_own,
+    chains_are_scripts, four_lists_are_prefixes, second_pump_is_no_matter, sessions_are_their_own,
 };
 pub use not_chained::{ChainWhy, NotChained};
 pub use six::Six;

@@ -1,5 +1,6 @@
 -- What comes to a low process on its connections, and which arrival each of its looks is offered.
-use Rattle.std.specs.Prelude.{◌≡◌, ℕ, ◌+◌, Bool, true, false, ◌&&◌, not, if◌then◌else◌, List, [], ◌∷◌, ◌++◌, take, Option, Some, None, slice_get}
+use Rattle.std.specs.Prelude.{◌≡◌, ℕ, ◌+◌, Bool, true, false, ◌&&◌, not, if◌then◌else◌, List, [], ◌∷◌, ◌++◌, take}
+use Rattle.std.specs.Prelude.{Option, Some, None, slice_get}
 use Rattle.std.specs.List.{list_any}
 use Rattle.pump_frame.specs.declared.frame.Frame.{Frame}
 use Rattle.pump_frame.specs.declared.row.SessionRow.{SessionRow}
@@ -109,7 +110,8 @@ pub record Side : Type 0 where
 -- the lives had these low sides, one by one
 abbrev pub HaveSides : SessionRow → List Side → List Life → Type 0
 HaveSides row [] [] = Unit {0}
-HaveSides row (s ∷ ss) (l ∷ ls) = (l.opening ≡ s.opening) × ((now : ℕ) × AreOffered row s.opening s.events l.looks now) × HaveSides row ss ls
+HaveSides row (s ∷ ss) (l ∷ ls) = (l.opening ≡ s.opening) × ((now : ℕ) × AreOffered row s.opening s.events l.looks now)
+    × HaveSides row ss ls
 HaveSides row [] (l ∷ ls) = ⊥
 HaveSides row (s ∷ ss) [] = ⊥
 

@@ -1,10 +1,13 @@
 -- What may happen in a world: each event where its condition holds, and it changes only what is named.
-use Rattle.std.specs.Prelude.{◌≡◌, ℕ, ◌+◌, ◌-◌, ◌<◌, ◌≤◌, ◌&&◌, nat_lt, ◌==◌, if◌then◌else◌, Bool, true, false, List, [], ◌∷◌, ◌++◌, length, slice_get, Option, Some, None}
+use Rattle.std.specs.Prelude.{◌≡◌, ℕ, ◌+◌, ◌-◌, ◌<◌, ◌≤◌, ◌&&◌, nat_lt, ◌==◌, if◌then◌else◌, Bool, true, false, List}
+use Rattle.std.specs.Prelude.{[], ◌∷◌, ◌++◌, length, slice_get, Option, Some, None}
 use Rattle.pump_frame.specs.Rows.{least_capacity, greatest_capacity}
 use Rattle.pump_frame.specs.declared.payload.Payload.{Payload}
 use Rattle.pump_frame.specs.declared.frame.Item.{Item}
 use Rattle.pump_core.specs.declared.event.Event.{Event}
-use Rattle.pump_core.specs.declared.event.Event.TheVariants.{StoreBegin, StoreEnd, Forward, TakeUp, Send, CarryData, TakeBegin, TakeEnd, ReturnTaken, RemoveBegin, RemoveEnd, Acknowledge, Crash}
+use Rattle.pump_core.specs.declared.event.Event.TheVariants.{StoreBegin, StoreEnd, Forward, TakeUp, Send, CarryData}
+use Rattle.pump_core.specs.declared.event.Event.TheVariants.{TakeBegin, TakeEnd, ReturnTaken, RemoveBegin, RemoveEnd}
+use Rattle.pump_core.specs.declared.event.Event.TheVariants.{Acknowledge, Crash}
 use Rattle.pump_core.specs.declared.event.Hostile.{Hostile}
 use Rattle.pump_core.specs.declared.event.Hostile.TheVariants.{Core, Forge}
 use Rattle.pump_core.specs.World.{World, empty, opened, refilled, Agree}

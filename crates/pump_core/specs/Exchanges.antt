@@ -1,6 +1,7 @@
 -- The exchanges into which a life is cut: a grammar over whole lives. Every list has its newest entry
 -- first: looks, parts, lives.
-use Rattle.std.specs.Prelude.{◌≡◌, ℕ, ◌+◌, ◌^◌, Bool, true, false, ◌&&◌, ◌==◌, nat_lt, nat_le, if◌then◌else◌, List, [], ◌∷◌, ◌++◌, length}
+use Rattle.std.specs.Prelude.{◌≡◌, ℕ, ◌+◌, ◌^◌, Bool, true, false, ◌&&◌, ◌==◌, nat_lt, nat_le, if◌then◌else◌, List, []}
+use Rattle.std.specs.Prelude.{◌∷◌, ◌++◌, length}
 use Rattle.std.specs.List.{AllByRecursion, list_any}
 use Rattle.std.specs.Str.{bytes_eq}
 use Rattle.pump_frame.specs.Frames.{greeting}
@@ -252,15 +253,20 @@ pub record IsPassing (x : Look) : Type 0 where
 -- these looks make such a part, where so many messages are stored and the connection is greeted or not
 abbrev pub IsPart : SessionRow → ℕ → Bool → Part → Type 0
 IsPart row count greeted (Holding newest older) = AllByRecursion IsHeld (newest ∷ older)
-IsPart row count greeted (Release before last) = AllByRecursion IsHeld before × (last.feedback ≡ Released) × (is_gone last.arrival ≡ false)
+IsPart row count greeted (Release before last) = AllByRecursion IsHeld before × (last.feedback ≡ Released)
+    × (is_gone last.arrival ≡ false)
 IsPart row count greeted (Empty x) = (x.arrival ≡ Nothing) × (x.feedback ≡ Quiet)
 IsPart row count greeted (Leaving x) = (x.arrival ≡ Gone) × (x.feedback ≡ Quiet)
 IsPart row count greeted (Answer x) = IsAnswered row count greeted x.arrival × (x.feedback ≡ Quiet)
-IsPart row count greeted (Repeated first wait) = IsFrame (is_repeat row count greeted) first.arrival × (has_average first.feedback ≡ true) × IsWait (due row first) wait
+IsPart row count greeted (Repeated first wait) = IsFrame (is_repeat row count greeted) first.arrival
+    × (has_average first.feedback ≡ true) × IsWait (due row first) wait
 IsPart row count greeted (Offering first full) = IsStore row count greeted false first × AllByRecursion IsFull full
-IsPart row count greeted (Dropped first full gone) = IsStore row count greeted false first × AllByRecursion IsFull full × (gone.arrival ≡ Gone) × (gone.feedback ≡ Quiet)
-IsPart row count greeted (Delivery first full passing wait) = IsStore row count greeted false first × AllByRecursion IsFull full × IsPassing passing × IsWait (due row passing) wait
-IsPart row count greeted (Loss first rest) = IsStore row count greeted true first × AllByRecursion (λ x. x.feedback ≡ Quiet) rest
+IsPart row count greeted (Dropped first full gone) = IsStore row count greeted false first × AllByRecursion IsFull full
+    × (gone.arrival ≡ Gone) × (gone.feedback ≡ Quiet)
+IsPart row count greeted (Delivery first full passing wait) = IsStore row count greeted false first
+    × AllByRecursion IsFull full × IsPassing passing × IsWait (due row passing) wait
+IsPart row count greeted (Loss first rest) = IsStore row count greeted true first
+    × AllByRecursion (λ x. x.feedback ≡ Quiet) rest
 
 abbrev pub is_release : Part → Bool
 is_release (Holding newest older) = true
@@ -276,7 +282,8 @@ pub record Follows (row : SessionRow) (o : Opening) (p : Part) (before : List Pa
 -- parts of one life, each of which may stand where it does, and all but the newest are finished
 abbrev pub AreParts : SessionRow → Opening → List Part → Type 0
 AreParts row o [] = Unit {0}
-AreParts row o (p ∷ before) = Follows row o p before × AreParts row o before × AllByRecursion (λ q. is_finished q ≡ true) before
+AreParts row o (p ∷ before) = Follows row o p before × AreParts row o before
+    × AllByRecursion (λ q. is_finished q ≡ true) before
 
 -- the life is cut into these parts
 pub record IsCut (row : SessionRow) (life : Life) (parts : List Part) : Type 0 where

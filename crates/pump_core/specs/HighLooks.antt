@@ -1,6 +1,7 @@
 -- A look of the high side: a TAKEN comes back, the message in the hand is removed and its time is
 -- published, the next message is taken up, and the message in the hand is sent.
-use Rattle.std.specs.Prelude.{◌≡◌, ◌⊎◌, ℕ, Bool, true, false, nat_lt, if◌then◌else◌, List, [], ◌∷◌, ◌++◌, option_to_list, Option, Some, None}
+use Rattle.std.specs.Prelude.{◌≡◌, ◌⊎◌, ℕ, Bool, true, false, nat_lt, if◌then◌else◌, List, [], ◌∷◌, ◌++◌}
+use Rattle.std.specs.Prelude.{option_to_list, Option, Some, None}
 use Rattle.pump_core.specs.declared.event.Event.{Event}
 use Rattle.pump_core.specs.declared.event.Event.TheVariants.{TakeUp, Send, ReturnTaken, RemoveBegin, RemoveEnd}
 use Rattle.pump_core.specs.World.{World}

@@ -1,13 +1,16 @@
 -- The replies of a history, read off the parts of its lives. A history keeps its newest look first;
 -- its replies stand in the order in which they were sent.
-use Rattle.std.specs.Prelude.{◌≡◌, ℕ, Bool, true, false, ◌==◌, not, ◌||◌, nat_lt, if◌then◌else◌, List, [], ◌∷◌, ◌++◌, length, Option, Some, None}
+use Rattle.std.specs.Prelude.{◌≡◌, ℕ, Bool, true, false, ◌==◌, not, ◌||◌, nat_lt, if◌then◌else◌, List, [], ◌∷◌, ◌++◌}
+use Rattle.std.specs.Prelude.{length, Option, Some, None}
 use Rattle.pump_frame.specs.declared.frame.Kind.TheVariants.{Welcome, Ack, Refuse}
 use Rattle.pump_frame.specs.declared.frame.Frame.{Frame}
 use Rattle.pump_frame.specs.declared.row.SessionRow.{SessionRow}
 use Rattle.pump_core.specs.History.{Arrival}
 use Rattle.pump_core.specs.History.{Nothing, Came, Bad, Gone}
 use Rattle.pump_core.specs.History.{Look, Opening, Life, History}
-use Rattle.pump_core.specs.Exchanges.{is_gone, is_hello, is_data, permits_frame, Wait, Waiting, Over, Part, Holding, Release, Empty, Leaving, Answer, Repeated, Offering, Dropped, Delivery, Loss, count_after, greeted_after, IsCut}
+use Rattle.pump_core.specs.Exchanges.{is_gone, is_hello, is_data, permits_frame, Wait, Waiting, Over, Part, Holding}
+use Rattle.pump_core.specs.Exchanges.{Release, Empty, Leaving, Answer, Repeated, Offering, Dropped, Delivery, Loss}
+use Rattle.pump_core.specs.Exchanges.{count_after, greeted_after, IsCut}
 
 -- the reply to a permitted HELLO: how many messages are stored
 abbrev pub welcome : SessionRow → ℕ → Frame
@@ -71,16 +74,19 @@ replies_in _ _ _ _ = []
 -- the replies of parts, the oldest reply first
 abbrev pub replies_of : SessionRow → Opening → List Part → List Sent
 replies_of row o [] = []
-replies_of row o (p ∷ before) = replies_of row o before ++ replies_in row (count_after o before) (greeted_after row before) p
+replies_of row o (p ∷ before) = replies_of row o before ++ replies_in row (count_after o before)
+    (greeted_after row before) p
 
 -- these are the replies of the life
 abbrev pub LifeReplies : SessionRow → Life → List Sent → Type 0
-LifeReplies row life replies = (parts : List Part) × IsCut row life parts × (replies ≡ replies_of row life.opening parts)
+LifeReplies row life replies = (parts : List Part) × IsCut row life parts
+    × (replies ≡ replies_of row life.opening parts)
 
 -- these are the replies of the lives, of which the newest comes first
 abbrev pub LivesReplies : SessionRow → List Life → List Sent → Type 0
 LivesReplies row [] replies = replies ≡ []
-LivesReplies row (life ∷ earlier) replies = (older : List Sent) × (newer : List Sent) × LivesReplies row earlier older × LifeReplies row life newer × (replies ≡ older ++ newer)
+LivesReplies row (life ∷ earlier) replies = (older : List Sent) × (newer : List Sent) × LivesReplies row earlier older
+    × LifeReplies row life newer × (replies ≡ older ++ newer)
 
 -- these are the replies of the history
 abbrev pub LowReplies : SessionRow → History → List Sent → Type 0

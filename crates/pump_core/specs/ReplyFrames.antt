@@ -19,7 +19,13 @@ code_of refusals.Device = 5
 abbrev pub frame_of : ℕ → Reply → Frame
 frame_of session (Welcome n) = record { kind = kinds.Welcome; session = session; number = n; payload = [] }
 frame_of session (Ack n) = record { kind = kinds.Ack; session = session; number = n; payload = [] }
-frame_of session (Refuse why n) = record { kind = kinds.Refuse; session = session; number = n; payload = code_of why ∷ [] }
+frame_of session (Refuse why n) = record {
+  kind = kinds.Refuse;
+  session = session;
+  number = n;
+  payload = code_of
+      why ∷ [];
+}
 
 -- the number is one that a frame of this kind may have
 abbrev pub IsLawfulReply : Reply → Type 0

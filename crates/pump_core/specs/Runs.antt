@@ -6,7 +6,8 @@ use Rattle.pump_frame.specs.declared.row.SessionRow.{SessionRow}
 use Rattle.pump_core.specs.declared.feedback.Feedback.{Feedback}
 use Rattle.pump_core.specs.declared.event.Event.TheVariants.{StoreBegin, StoreEnd, Forward, Acknowledge}
 use Rattle.pump_core.specs.History.{Arrival, Came, Look, Opening, Life, History}
-use Rattle.pump_core.specs.Exchanges.{is_gone, Waiting, Over, Part, Holding, Release, Repeated, Offering, Delivery, Loss, IsCut}
+use Rattle.pump_core.specs.Exchanges.{is_gone, Waiting, Over, Part, Holding, Release, Repeated, Offering, Delivery}
+use Rattle.pump_core.specs.Exchanges.{Loss, IsCut}
 use Rattle.pump_core.specs.Replies.{number_in}
 use Rattle.pump_core.specs.Pairs.{uncounted}
 use Rattle.pump_core.specs.Comings.{Timed, Comes, Looks, Side, HasSides}

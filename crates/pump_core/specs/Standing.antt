@@ -4,7 +4,8 @@ use Rattle.pump_frame.specs.declared.row.SessionRow.{SessionRow}
 use Rattle.pump_core.specs.Phases.{Phase}
 use Rattle.pump_core.specs.Phases.{Idle, Passing, Waiting as Waits, Down}
 use Rattle.pump_core.specs.History.{Look, Opening, Life, History}
-use Rattle.pump_core.specs.Exchanges.{Wait, Waiting, Over, Part, Holding, Release, Empty, Leaving, Answer, Repeated, Offering, Dropped, Delivery, Loss, due, count_after, greeted_after, IsCut}
+use Rattle.pump_core.specs.Exchanges.{Wait, Waiting, Over, Part, Holding, Release, Empty, Leaving, Answer, Repeated}
+use Rattle.pump_core.specs.Exchanges.{Offering, Dropped, Delivery, Loss, due, count_after, greeted_after, IsCut}
 use Rattle.std.specs.List.{AllByRecursion}
 use Rattle.pump_core.specs.Replies.{number_in}
 
@@ -41,7 +42,12 @@ phase_after row o (p ∷ before) = phase_of row p
 -- the state at the end of these parts: how many messages are stored, whether the connection is
 -- greeted, and the phase
 abbrev pub end_of : SessionRow → Opening → List Part → State
-end_of row o parts = record { next = count_after o parts; greeted = greeted_after row parts; phase = phase_after row o parts }
+end_of row o parts = record {
+  next = count_after o parts;
+  greeted = greeted_after row parts;
+  phase = phase_after row o
+      parts;
+}
 
 -- the life can be cut
 abbrev pub HasCut : SessionRow → Life → Type 0

@@ -22,7 +22,8 @@ opened o = record { next = o.count; greeted = false; phase = if o.is_held then P
 abbrev pub taken : SessionRow → State → Look → Frame → State
 taken row s x f =
     if is_repeat row s.next s.greeted f then record s { phase = Waits f.number (due row x) }
-    else if is_next row s.next s.greeted f then (if x.is_fault then record s { phase = Down } else record s { next = s.next + 1; phase = Passing (Some f.number) })
+    else if is_next row s.next s.greeted f then (if x.is_fault then record s { phase = Down } else record s
+    { next = s.next + 1; phase = Passing (Some f.number) })
     else record s { greeted = if is_hello f.kind then permits_frame row f else s.greeted }
 
 -- the state after a look in Idle
@@ -45,8 +46,14 @@ is_full _ = false
 -- the state after a look in this phase
 abbrev pub after_in : SessionRow → State → Look → Phase → State
 after_in row s x Down = s
-after_in row s x (Waits n at) = if is_gone x.arrival then record { next = s.next; greeted = false; phase = Idle } else (if nat_le at x.moment then record s { phase = Idle } else s)
-after_in row s x (Passing owed) = if is_gone x.arrival then record { next = s.next; greeted = false; phase = Passing None } else (if is_full x.feedback then s else record s { phase = passed row x owed })
+after_in row s x (Waits n at) = if is_gone x.arrival then record { next = s.next; greeted = false; phase = Idle } else
+    (if nat_le at x.moment then record s { phase = Idle } else s)
+after_in row s x (Passing owed) = if is_gone x.arrival then record {
+  next = s.next;
+  greeted = false;
+  phase = Passing
+      None;
+} else (if is_full x.feedback then s else record s { phase = passed row x owed })
 after_in row s x Idle = after_idle row s x x.arrival
 
 -- the state after a look
@@ -70,7 +77,8 @@ reply_idle row s x (Came f) = reply_taken row s x f
 -- the reply at a look in this phase
 abbrev pub reply_in : SessionRow → State → Look → Phase → Option Frame
 reply_in row s x Down = None
-reply_in row s x (Waits n at) = if is_gone x.arrival then None else (if nat_le at x.moment then Some (acknowledgement row n) else None)
+reply_in row s x (Waits n at) = if is_gone x.arrival then None else (if nat_le at x.moment then Some
+    (acknowledgement row n) else None)
 reply_in row s x (Passing owed) = None
 reply_in row s x Idle = reply_idle row s x x.arrival
 

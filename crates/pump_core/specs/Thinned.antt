@@ -3,7 +3,8 @@
 use Rattle.std.specs.Prelude.{◌≡◌, false, List, [], ◌∷◌}
 use Rattle.pump_frame.specs.declared.row.SessionRow.{SessionRow}
 use Rattle.pump_core.specs.History.{Look, Life, History}
-use Rattle.pump_core.specs.Exchanges.{is_gone, Wait, Waiting, Over, Part, Holding, Release, Empty, Repeated, Offering, Dropped, Delivery, looks_of, IsCut}
+use Rattle.pump_core.specs.Exchanges.{is_gone, Wait, Waiting, Over, Part, Holding, Release, Empty, Repeated, Offering}
+use Rattle.pump_core.specs.Exchanges.{Dropped, Delivery, looks_of, IsCut}
 
 -- the second list is the first with looks left out
 pub data Fewer : List Look → List Look → Type 0 where
@@ -29,8 +30,10 @@ pub data ShorterPart : Part → Part → Type 0 where
   released : {xs ys : List Look} {last : Look} → FewerHeld xs ys → ShorterPart (Release xs last) (Release ys last)
   repeated : {first : Look} {w v : Wait} → ShorterWait w v → ShorterPart (Repeated first w) (Repeated first v)
   offering : {first : Look} {xs ys : List Look} → Fewer xs ys → ShorterPart (Offering first xs) (Offering first ys)
-  dropped : {first gone : Look} {xs ys : List Look} → Fewer xs ys → ShorterPart (Dropped first xs gone) (Dropped first ys gone)
-  delivery : {first passing : Look} {xs ys : List Look} {w v : Wait} → Fewer xs ys → ShorterWait w v → ShorterPart (Delivery first xs passing w) (Delivery first ys passing v)
+  dropped : {first gone : Look} {xs ys : List Look} → Fewer xs ys
+      → ShorterPart (Dropped first xs gone) (Dropped first ys gone)
+  delivery : {first passing : Look} {xs ys : List Look} {w v : Wait} → Fewer xs ys → ShorterWait w v
+      → ShorterPart (Delivery first xs passing w) (Delivery first ys passing v)
 
 -- the second list of parts is the first with such looks, and Empty looks, left out
 pub data Shorter : List Part → List Part → Type 0 where

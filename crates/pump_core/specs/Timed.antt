@@ -1,13 +1,15 @@
 -- Timed runs: what comes to the low side, the looks of both sides, and the events of the world between
 -- them. Of the low side all lists have their newest entry first.
-use Rattle.std.specs.Prelude.{◌≡◌, ℕ, ◌-◌, ◌≤◌, ◌==◌, if◌then◌else◌, Bool, true, false, List, [], ◌∷◌, ◌++◌, length, Option, Some, None}
+use Rattle.std.specs.Prelude.{◌≡◌, ℕ, ◌-◌, ◌≤◌, ◌==◌, if◌then◌else◌, Bool, true, false, List, [], ◌∷◌, ◌++◌, length}
+use Rattle.std.specs.Prelude.{Option, Some, None}
 use Rattle.pump_frame.specs.declared.row.SessionRow.{SessionRow}
 use Rattle.pump_frame.specs.Averages.{averaging_of, average_of}
 use Rattle.pump_core.specs.declared.feedback.Seen.{Seen}
 use Rattle.pump_core.specs.declared.feedback.Feedback.{Feedback}
 use Rattle.pump_core.specs.declared.feedback.Feedback.TheVariants.{Quiet, Full, Passed, Released, Repeat}
 use Rattle.pump_core.specs.declared.event.Event.{Event}
-use Rattle.pump_core.specs.declared.event.Event.TheVariants.{StoreBegin, StoreEnd, Forward, TakeUp, Send, ReturnTaken, RemoveBegin, RemoveEnd, Acknowledge, Crash}
+use Rattle.pump_core.specs.declared.event.Event.TheVariants.{StoreBegin, StoreEnd, Forward, TakeUp, Send, ReturnTaken}
+use Rattle.pump_core.specs.declared.event.Event.TheVariants.{RemoveBegin, RemoveEnd, Acknowledge, Crash}
 use Rattle.pump_core.specs.History.{Opening}
 use Rattle.pump_core.specs.Comings.{Coming, LookMade, Timed, Comes, Looks, Side}
 use Rattle.pump_core.specs.World.{World, live}

@@ -1,6 +1,7 @@
 //! What a crash keeps and what an opening finds.
 
-ghost use Rattle.std.specs.Prelude.{◌≡◌, ◌+◌, ◌-◌, ◌<◌, ◌^◌, ◌&&◌, true, nat_lt, if◌then◌else◌, ◌++◌, ◌∷◌, [], length, IfOk, Some, None, vec_len, vec_capacity};
+ghost use Rattle.std.specs.Prelude.{◌≡◌, ◌+◌, ◌-◌, ◌<◌, ◌^◌, ◌&&◌, true, nat_lt, if◌then◌else◌, ◌++◌, ◌∷◌, [], length};
+ghost use Rattle.std.specs.Prelude.{IfOk, Some, None, vec_len, vec_capacity};
 ghost use Rattle.std.specs.List.{range_with_len};
 ghost use Rattle.pump_core.specs.Events.{with_kept, with_answer};
 

@@ -76,18 +76,18 @@ partial_short w (f, b, more, lawful, e) =
     let header : length (spelling f) ≡ 18 + length f.payload = omega arith in
     omega arith
 
-same_front : (a b x y : List ℕ) (p : Place) → run a p ≡ Some End → run b p ≡ Some End → a ++ x ≡ b ++ y → a ≡ b
-same_front [] [] x y p r s e = refl
-same_front [] (d ∷ b) x y p r s e = let P : Place → Type 0 = λ q. run (d ∷ b) q ≡ Some End in let at = subst P (same_Some p End r) s in cc (at)
-same_front (c ∷ a) [] x y p r s e = let P : Place → Type 0 = λ q. run (c ∷ a) q ≡ Some End in let at = subst P (same_Some p End s) r in cc (at)
-same_front (c ∷ a) (d ∷ b) x y p r s e =
+same_prefix : (a b x y : List ℕ) (p : Place) → run a p ≡ Some End → run b p ≡ Some End → a ++ x ≡ b ++ y → a ≡ b
+same_prefix [] [] x y p r s e = refl
+same_prefix [] (d ∷ b) x y p r s e = let P : Place → Type 0 = λ q. run (d ∷ b) q ≡ Some End in let at = subst P (same_Some p End r) s in cc (at)
+same_prefix (c ∷ a) [] x y p r s e = let P : Place → Type 0 = λ q. run (c ∷ a) q ≡ Some End in let at = subst P (same_Some p End s) r in cc (at)
+same_prefix (c ∷ a) (d ∷ b) x y p r s e =
     let head : c ≡ d = cc in
     let tail : a ++ x ≡ b ++ y = cc in
     option_and_then_some (λ next. run a next) (step p c) End r (λ q there more.
     let P : ℕ → Type 0 = λ n. step p n ≡ Some q in
     let also : step p d ≡ Some q = subst P head there in
     let on : option_and_then (λ next. run b next) (Some q) ≡ Some End = ap (λ (o : Option Place). option_and_then (λ next. run b next) o) (sym also) ∙ s in
-    let same = same_front a b x y q more on tail in
+    let same = same_prefix a b x y q more on tail in
     cc)
 
 number_small : (k : Kind) (n : ℕ) → IsNumber k n → n < 256 ^ 8
@@ -125,7 +125,7 @@ same_frame f g a b e =
 -- no spelling begins another, and no two frames have one spelling
 pub free : (f g : Frame) (x y : List ℕ) → IsLawful f → IsLawful g → spelling f ++ x ≡ spelling g ++ y → (f ≡ g) × (x ≡ y)
 free f g x y a b e =
-    let same = same_front (spelling f) (spelling g) x y FirstMark (run_spelling f a) (run_spelling g b) e in
+    let same = same_prefix (spelling f) (spelling g) x y FirstMark (run_spelling f a) (run_spelling g b) e in
     let P : List ℕ → Type 0 = λ w. w ++ x ≡ spelling g ++ y in
     (same_frame f g a b same, append_cancel_left (spelling g) x y (subst P same e))
 

@@ -37,9 +37,9 @@ pub names_at : (bytes : List ℕ) (i : ℕ) → get_or bytes i 0 ≡ 58 → ((k 
 names_at bytes i here first (low, high, is_low, is_high, e) =
     let at_greeting : (get_or (greeting low high) i 0 ≡ 58) × ((k : ℕ) → k < i → get_or (greeting low high) k 0 ≢ 58) = subst (λ (x : List ℕ). (get_or x i 0 ≡ 58) × ((k : ℕ) → k < i → get_or x k 0 ≢ 58)) e (here, first) in
     let place = colon_at low high i is_low at_greeting.0 at_greeting.1 in
-    let front : take i bytes ≡ low = rw e (take_at low (58 ∷ high) i (sym place)) in
+    let prefix : take i bytes ≡ low = rw e (take_at low (58 ∷ high) i (sym place)) in
     let back : drop (i + 1) bytes ≡ high = rw (e, ← append_assoc low (58 ∷ []) high) (drop_at (low ++ 58 ∷ []) high (i + 1) (rw (length-append low (58 ∷ [])) (omega arith))) in
-    (rw front is_low, rw back is_high)
+    (rw prefix is_low, rw back is_high)
 
 -- two names round a colon
 pub names_split : (bytes : List ℕ) (i : ℕ) → i < length bytes → get_or bytes i 0 ≡ 58 → IsName (take i bytes) → IsName (drop (i + 1) bytes) → AreNames bytes
@@ -52,8 +52,8 @@ names_are_one low high low' high' a b e =
     let before : (k : ℕ) → k < length low → get_or (greeting low' high') k 0 ≢ 58 = λ k l h.
     plain_at low k a.plain l (sym (get_or_append_left low (58 ∷ high) 0 k l) ∙ subst (λ (x : List ℕ). get_or x k 0 ≡ 58) (sym e) h) in
     let place = colon_at low' high' (length low) b here before in
-    let front : low ≡ low' = sym (take_at low (58 ∷ high) (length low) refl) ∙ ap (λ (x : List ℕ). take (length low) x) e ∙ take_at low' (58 ∷ high') (length low) (sym place) in
+    let prefix : low ≡ low' = sym (take_at low (58 ∷ high) (length low) refl) ∙ ap (λ (x : List ℕ). take (length low) x) e ∙ take_at low' (58 ∷ high') (length low) (sym place) in
     let back : drop (length low) (greeting low high) ≡ drop (length low) (greeting low' high') = ap (λ (x : List ℕ). drop (length low) x) e in
     let left = drop_at low (58 ∷ high) (length low) refl in
     let right = drop_at low' (58 ∷ high') (length low) (sym place) in
-    (front, cc)
+    (prefix, cc)

@@ -61,15 +61,15 @@ read_high (b ∷ w) left least h =
 
 -- the names
 
-plain_push : (front : List ℕ) (b : ℕ) → IsTrue (list_all is_name_byte front) → is_name_byte b ≡ true → IsTrue (list_all is_name_byte (front ++ b ∷ []))
+plain_push : (prefix : List ℕ) (b : ℕ) → IsTrue (list_all is_name_byte prefix) → is_name_byte b ≡ true → IsTrue (list_all is_name_byte (prefix ++ b ∷ []))
 plain_push [] b all h = and_from (is_name_byte b) true h refl
 plain_push (x ∷ xs) b all h =
     let each = and_parts (is_name_byte x) (list_all is_name_byte xs) all in
     and_from (is_name_byte x) (list_all is_name_byte (xs ++ b ∷ [])) each.0 (plain_push xs b each.1 h)
 
-read_low : (w front : List ℕ) (left read : ℕ) → length front ≡ read → read ≤ 32 → IsTrue (list_all is_name_byte front) → run w (LowName left read) ≡ Some End → AreNames (front ++ w) × (length w ≡ left)
-read_low [] front left read size short plain h = cc
-read_low (b ∷ w) front left read size short plain h =
+read_low : (w prefix : List ℕ) (left read : ℕ) → length prefix ≡ read → read ≤ 32 → IsTrue (list_all is_name_byte prefix) → run w (LowName left read) ≡ Some End → AreNames (prefix ++ w) × (length w ≡ left)
+read_low [] prefix left read size short plain h = cc
+read_low (b ∷ w) prefix left read size short plain h =
     elim (cases_Bool (b == 58)) [
       | inl t ↦ (
           let e : option_and_then (λ next. run w next) (goes (nat_le 1 read && nat_le 2 left && nat_le left 33) (HighName (left - 1))) ≡ Some End = rw t at h in
@@ -82,10 +82,10 @@ read_low (b ∷ w) front left read size short plain h =
           let high = read_high w (left - 1) (omega arith) s.1 in
           let whole = high.0 in
           let colon = eqb-true b 58 t in
-          let low_name : IsName front = record { some = omega arith; short = omega arith; plain = plain } in
+          let low_name : IsName prefix = record { some = omega arith; short = omega arith; plain = plain } in
           let high_name : IsName w = record { some = omega arith; short = omega arith; plain = high.1 } in
-          let split : front ++ b ∷ w ≡ greeting front w = rw colon refl in
-          ((front, w, low_name, high_name, split), omega arith))
+          let split : prefix ++ b ∷ w ≡ greeting prefix w = rw colon refl in
+          ((prefix, w, low_name, high_name, split), omega arith))
       | inr t ↦ (
           let e : option_and_then (λ next. run w next) (goes (is_name_byte b && nat_le read 31 && nat_le 3 left) (LowName (left - 1) (read + 1))) ≡ Some End = rw t at h in
           let s = through (is_name_byte b && nat_le read 31 && nat_le 3 left) (LowName (left - 1) (read + 1)) w End e in
@@ -93,7 +93,7 @@ read_low (b ∷ w) front left read size short plain h =
           let first = and_parts (is_name_byte b) (nat_le read 31) both.0 in
           let most = leb-true read 31 first.1 in
           let least = leb-true 3 left both.1 in
-          let more = read_low w (front ++ b ∷ []) (left - 1) (read + 1) (rw (length-append front (b ∷ [])) (omega arith)) (omega arith) (plain_push front b plain first.0) s.1 in
+          let more = read_low w (prefix ++ b ∷ []) (left - 1) (read + 1) (rw (length-append prefix (b ∷ [])) (omega arith)) (omega arith) (plain_push prefix b plain first.0) s.1 in
           let whole = more.1 in
           (rw append_assoc at more.0, omega arith))
     ]

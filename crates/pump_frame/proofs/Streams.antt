@@ -92,8 +92,8 @@ stopped (b ∷ bytes) at fs s (fed, mid, later, feeds, reads, e) =
 stream_cons : (f : Frame) (bytes : List ℕ) (fs : List Frame) (s : Reading) → IsLawful f → IsStream bytes fs s → IsStream (spelling f ++ bytes) (f ∷ fs) s
 stream_cons f bytes fs (Within rest) lawful (all, partial, e) =
     ((lawful, all), partial, ap (λ (x : List ℕ). spelling f ++ x) e ∙ sym (append_assoc (spelling f) (spellings fs) rest))
-stream_cons f bytes fs (Stopped at) lawful (all, front, byte, more, partial, none, size, e) =
-    ((lawful, all), front, byte, more, partial, none, size, ap (λ (x : List ℕ). spelling f ++ x) e ∙ sym (append_assoc (spelling f) (spellings fs) (front ++ byte ∷ more)))
+stream_cons f bytes fs (Stopped at) lawful (all, prefix, byte, more, partial, none, size, e) =
+    ((lawful, all), prefix, byte, more, partial, none, size, ap (λ (x : List ℕ). spelling f ++ x) e ∙ sym (append_assoc (spelling f) (spellings fs) (prefix ++ byte ∷ more)))
 
 along : (w v : List ℕ) (fs gs : List Frame) (s : Reading) → w ≡ v → fs ≡ gs → IsStream w fs s → IsStream v gs s
 along w v fs gs s e d h =
@@ -129,18 +129,18 @@ reads_whole (c ∷ w) held b f lawful e =
     let more : spelling f ≡ (held ++ b ∷ []) ++ c ∷ w = e ∙ sym (append_assoc held (b ∷ []) (c ∷ w)) in
     (More, Within (held ++ b ∷ []), f ∷ [], ((f, c, w, lawful, more), refl), reads_whole w (held ++ b ∷ []) c f lawful more, refl)
 
-front_partial : (w v : List ℕ) → IsPartial (w ++ v) → IsPartial w
-front_partial w [] h = let P : List ℕ → Type 0 = IsPartial in subst P (append-nil w) h
-front_partial w (c ∷ v) (f, b, rest, lawful, e) = (f, c, v ++ b ∷ rest, lawful, e ∙ append_assoc w (c ∷ v) (b ∷ rest))
+prefix_partial : (w v : List ℕ) → IsPartial (w ++ v) → IsPartial w
+prefix_partial w [] h = let P : List ℕ → Type 0 = IsPartial in subst P (append-nil w) h
+prefix_partial w (c ∷ v) (f, b, rest, lawful, e) = (f, c, v ++ b ∷ rest, lawful, e ∙ append_assoc w (c ∷ v) (b ∷ rest))
 
-reads_front : (w held : List ℕ) → IsPartial (held ++ w) → Reads (Within held) w [] (Within (held ++ w))
-reads_front [] held h = (refl, ap Within (append-nil held))
-reads_front (b ∷ w) held h =
+reads_prefix : (w held : List ℕ) → IsPartial (held ++ w) → Reads (Within held) w [] (Within (held ++ w))
+reads_prefix [] held h = (refl, ap Within (append-nil held))
+reads_prefix (b ∷ w) held h =
     let P : List ℕ → Type 0 = IsPartial in
     let regrouped : held ++ b ∷ w ≡ (held ++ b ∷ []) ++ w = sym (append_assoc held (b ∷ []) w) in
     let whole = subst P regrouped h in
     let Q : List ℕ → Type 0 = λ x. Reads (Within (held ++ b ∷ [])) w [] (Within x) in
-    (More, Within (held ++ b ∷ []), [], (front_partial (held ++ b ∷ []) w whole, refl), subst Q (sym regrouped) (reads_front w (held ++ b ∷ []) whole), refl)
+    (More, Within (held ++ b ∷ []), [], (prefix_partial (held ++ b ∷ []) w whole, refl), subst Q (sym regrouped) (reads_prefix w (held ++ b ∷ []) whole), refl)
 
 stays_stopped : (w : List ℕ) (at : ℕ) → Reads (Stopped at) w [] (Stopped at)
 stays_stopped [] at = (refl, refl)
@@ -161,11 +161,11 @@ read_on bytes w fs s e all rest =
     subst P (sym e) (subst Q (append-nil fs) (reads_both (spellings fs) w (Within []) (Within []) s fs [] (reads_frames fs all) rest))
 
 pub stream_reads : (bytes : List ℕ) (fs : List Frame) (s : Reading) → IsStream bytes fs s → Reads (Within []) bytes fs s
-stream_reads bytes fs (Within rest) (all, partial, e) = read_on bytes rest fs (Within rest) e all (reads_front rest [] partial)
-stream_reads bytes fs (Stopped at) (all, front, byte, more, partial, none, size, e) =
-    let bad : Reads (Within front) (byte ∷ more) [] (Stopped at) = (Bad at, Stopped at, [], (none, size, refl), stays_stopped more at, refl) in
-    read_on bytes (front ++ byte ∷ more) fs (Stopped at) e all
-    (reads_both front (byte ∷ more) (Within []) (Within front) (Stopped at) [] [] (reads_front front [] partial) bad)
+stream_reads bytes fs (Within rest) (all, partial, e) = read_on bytes rest fs (Within rest) e all (reads_prefix rest [] partial)
+stream_reads bytes fs (Stopped at) (all, prefix, byte, more, partial, none, size, e) =
+    let bad : Reads (Within prefix) (byte ∷ more) [] (Stopped at) = (Bad at, Stopped at, [], (none, size, refl), stays_stopped more at, refl) in
+    read_on bytes (prefix ++ byte ∷ more) fs (Stopped at) e all
+    (reads_both prefix (byte ∷ more) (Within []) (Within prefix) (Stopped at) [] [] (reads_prefix prefix [] partial) bad)
 
 pub streams_one : (bytes : List ℕ) (fs gs : List Frame) (s s' : Reading) → IsStream bytes fs s → IsStream bytes gs s' → (fs ≡ gs) × (s ≡ s')
 streams_one bytes fs gs s s' a b = reads_one bytes (Within []) fs gs s s' (stream_reads bytes fs s a) (stream_reads bytes gs s' b)

@@ -1,5 +1,6 @@
 -- The moving average of High's times, and what of it comes down to Low.
-use Rattle.std.specs.Prelude.{◌≡◌, ℕ, zero, suc, ◌-◌, ◌*◌, ◌/◌, ◌==◌, nat_le, List, length, drop, sum, min, if◌then◌else◌}
+use Rattle.std.specs.Prelude.{◌≡◌, ℕ, zero, suc, ◌-◌, ◌*◌, ◌/◌, ◌==◌, nat_le, List, length, drop, sum, min}
+use Rattle.std.specs.Prelude.{if◌then◌else◌}
 use Rattle.pump_frame.specs.declared.averaging.Averaging.{Averaging}
 use Rattle.pump_frame.specs.declared.row.SessionRow.{SessionRow}
 

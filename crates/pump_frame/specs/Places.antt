@@ -1,6 +1,8 @@
 -- What a reader of frames waits for, byte by byte. It only serves proofs: what a frame's bytes are
 -- stands in `Spellings`.
-use Rattle.std.specs.Prelude.{ℕ, ◌+◌, ◌-◌, ◌*◌, ◌≤◌, ◌==◌, ◌&&◌, ◌||◌, nat_le, Bool, true, false, not, IsTrue, if◌then◌else◌, List, [], ◌∷◌, Option, None, Some, option_and_then, ◌≡◌, ◌<◌, length, get_or, drop}
+use Rattle.std.specs.Prelude.{ℕ, ◌+◌, ◌-◌, ◌*◌, ◌≤◌, ◌==◌, ◌&&◌, ◌||◌, nat_le, Bool, true, false, not, IsTrue}
+use Rattle.std.specs.Prelude.{if◌then◌else◌, List, [], ◌∷◌, Option, None, Some, option_and_then, ◌≡◌, ◌<◌, length}
+use Rattle.std.specs.Prelude.{get_or, drop}
 use Rattle.byteorder.specs.Endian.{big_number}
 use Rattle.pump_frame.specs.Names.{is_name_byte}
 use Rattle.pump_frame.specs.Readings.{Reading, Within, Stopped}
@@ -10,7 +12,10 @@ use Rattle.pump_frame.specs.Frames.{IsLawful}
 use Rattle.pump_frame.specs.Spellings.{spelling}
 use Rattle.pump_frame.specs.declared.frame.Frame.{Frame}
 use Rattle.pump_frame.specs.declared.place.Place.{Place}
-use Rattle.pump_frame.specs.declared.place.Place.TheVariants.{FirstMark, SecondMark, Version, KindByte, Session, NumberTop, NumberSecond, NumberRest, LengthHigh, LengthLow, PayloadBytes, RefuseCode, LowName, HighName, End}
+use Rattle.pump_frame.specs.declared.place.Place.TheVariants.{FirstMark, SecondMark, Version, KindByte, Session}
+use Rattle.pump_frame.specs.declared.place.Place.TheVariants.{NumberTop, NumberSecond, NumberRest, LengthHigh}
+use Rattle.pump_frame.specs.declared.place.Place.TheVariants.{LengthLow, PayloadBytes, RefuseCode, LowName, HighName}
+use Rattle.pump_frame.specs.declared.place.Place.TheVariants.{End}
 
 -- the kind of a byte
 abbrev pub kind_of : ℕ → Option Kind

@@ -7,7 +7,7 @@ pub data Reading : Type 0 where
   Within : (held : List ℕ) → Reading
   Stopped : (at : ℕ) → Reading
 
--- what it holds is the front of a lawful frame, and not a whole one
+-- what it holds is the prefix of a lawful frame, and not a whole one
 abbrev pub HasBegun : Reading → Type 0
 HasBegun (Within held) = IsPartial held
 HasBegun (Stopped at) = Unit {0}

@@ -13,15 +13,15 @@ use Rattle.pump_frame.specs.Spellings.{spelling, BeginsSpelling, IsPartial}
 abbrev pub spellings : List Frame → List ℕ
 spellings frames = flat_map spelling frames
 
--- the bytes are those of lawful frames, and then the front of one more; or such a front, and behind
+-- the bytes are those of lawful frames, and then the prefix of one more; or such a prefix, and behind
 -- it a byte after which no lawful frame begins so, whose offset in its frame is the bad place
 abbrev pub IsStream : List ℕ → List Frame → Reading → Type 0
 IsStream bytes frames (Within rest) = AllByRecursion IsLawful frames × IsPartial rest
     × (bytes ≡ spellings frames ++ rest)
 IsStream bytes frames (Stopped at) = AllByRecursion IsLawful frames
-    × (front : List ℕ) × (byte : ℕ) × (more : List ℕ) × IsPartial front
-    × (BeginsSpelling (front ++ byte ∷ []) → ⊥) × (at ≡ length front)
-    × (bytes ≡ spellings frames ++ (front ++ byte ∷ more))
+    × (prefix : List ℕ) × (byte : ℕ) × (more : List ℕ) × IsPartial prefix
+    × (BeginsSpelling (prefix ++ byte ∷ []) → ⊥) × (at ≡ length prefix)
+    × (bytes ≡ spellings frames ++ (prefix ++ byte ∷ more))
 
 -- what a reader answers to one more byte, and what it is after it
 abbrev pub Feeds : Reading → ℕ → Fed → Reading → Type 0

@@ -23,7 +23,8 @@ impl Model for Name {
     ghost view = { λ s. take s.len s.cells };
 
     // What lies past the bytes is zero, so that equal names have equal cells.
-    ghost invariant = { λ s. (s.len ≤ 32) × (length s.cells ≡ 32) × (drop s.len s.cells ≡ replicate (32 - s.len) 0) × IsName (take s.len s.cells) };
+    ghost invariant = { λ s. (s.len ≤ 32) × (length s.cells ≡ 32) × (drop s.len s.cells ≡ replicate (32 - s.len) 0)
+        × IsName (take s.len s.cells) };
 
     ghost inverse = { λ bytes. record { cells = bytes ++ replicate (32 - length bytes) 0; len = length bytes } };
 

@@ -19,7 +19,8 @@ impl Model for Payload {
     ghost view = { λ s. take s.len s.cells };
 
     // What lies past the bytes is zero, so that equal lists have equal cells.
-    ghost invariant = { λ s. (s.len ≤ 1024) × (length s.cells ≡ 1024) × (drop s.len s.cells ≡ replicate (1024 - s.len) 0) };
+    ghost invariant = { λ s. (s.len ≤ 1024) × (length s.cells ≡ 1024)
+        × (drop s.len s.cells ≡ replicate (1024 - s.len) 0) };
 
     ghost inverse = { λ bytes. record { cells = bytes ++ replicate (1024 - length bytes) 0; len = length bytes } };
 

@@ -1,4 +1,4 @@
--- Laws of lists that are told: what grows at its end, and what is drawn from its front.
+-- Laws of lists that are told: what grows at its end, and what is drawn from its prefix.
 use Rattle.std.proofs.Common.{List, [], ◌++◌, sym, subst, append_assoc, append-nil}
 use Rattle.pump_link.specs.Tells.{Grows, Draws}
 

@@ -6,12 +6,12 @@ use Rattle.pump_link.specs.Doors.{MemoryDoor}
 use Rattle.pump_link.specs.Ports.{PortsStep, Listened, NoDoor, Connected, NoConnection, BackToPorts, ShutDoor, MemoryPorts, KeptLinks, keep, leave, AnswersFrom, DidPorts, kept_after, last_port}
 use Rattle.pump_link.specs.Tells.{Grows}
 
--- an insert behind the front
+-- an insert behind the prefix
 long : {A : Type 0} (b : ℕ) (xs : List A) (x : A) → b ≤ length xs → length (take b xs ++ x ∷ []) ≡ b + 1
 long b xs x le = length-append (take b xs) (x ∷ []) ∙ ap (λ n. n + 1) (length-take-le b xs le)
 
-pub insert_front : {A : Type 0} (b : ℕ) (xs : List A) (x : A) → b ≤ length xs → take (b + 1) (take b xs ++ x ∷ drop b xs) ≡ take b xs ++ x ∷ []
-insert_front b xs x le = ap (take (b + 1)) (sym (append_assoc (take b xs) (x ∷ []) (drop b xs))) ∙ take_at (take b xs ++ x ∷ []) (drop b xs) (b + 1) (long b xs x le)
+pub insert_prefix : {A : Type 0} (b : ℕ) (xs : List A) (x : A) → b ≤ length xs → take (b + 1) (take b xs ++ x ∷ drop b xs) ≡ take b xs ++ x ∷ []
+insert_prefix b xs x le = ap (take (b + 1)) (sym (append_assoc (take b xs) (x ∷ []) (drop b xs))) ∙ take_at (take b xs ++ x ∷ []) (drop b xs) (b + 1) (long b xs x le)
 
 pub insert_rest : {A : Type 0} (b : ℕ) (xs : List A) (x : A) → b ≤ length xs → drop (b + 1) (take b xs ++ x ∷ drop b xs) ≡ drop b xs
 insert_rest b xs x le = ap (drop (b + 1)) (sym (append_assoc (take b xs) (x ∷ []) (drop b xs))) ∙ drop_at (take b xs ++ x ∷ []) (drop b xs) (b + 1) (long b xs x le)

@@ -6,7 +6,7 @@ abbrev pub piece_in : {E : Type 0} → Result ℕ E → List ℕ → List (List 
 piece_in (Ok n) bytes = take n bytes ∷ []
 piece_in (Err e) bytes = []
 
--- the pieces stand one after another at the front of these bytes
+-- the pieces stand one after another at the prefix of these bytes
 abbrev pub PiecesFrom : List ℕ → List (List ℕ) → Type 0
 PiecesFrom left [] = Unit {0}
 PiecesFrom left (piece ∷ later) = (rest : List ℕ) × (left ≡ piece ++ rest) × PiecesFrom rest later

@@ -1,5 +1,6 @@
 -- What ports did.
-use Rattle.std.specs.Prelude.{◌≡◌, ℕ, ◌+◌, ◌-◌, ◌⊎◌, nat_lt, if◌then◌else◌, List, [], ◌∷◌, ◌++◌, length, drop, Contains, Option, None, Some, Result, Ok, Err}
+use Rattle.std.specs.Prelude.{◌≡◌, ℕ, ◌+◌, ◌-◌, ◌⊎◌, nat_lt, if◌then◌else◌, List, [], ◌∷◌, ◌++◌, length, drop, Contains}
+use Rattle.std.specs.Prelude.{Option, None, Some, Result, Ok, Err}
 use Rattle.pump_frame.specs.Counts.{raised}
 use Rattle.pump_link.specs.Doors.{MemoryDoor}
 
@@ -36,14 +37,17 @@ pub record KeptLinks (L : Type 0) : Type 0 where
 -- a link that comes back is kept where there is a place, else dropped
 abbrev pub keep : {L : Type 0} → KeptLinks L → Option L → KeptLinks L
 keep kept None = kept
-keep kept (Some link) = if nat_lt 0 kept.places then record { links = kept.links ++ link ∷ []; places = kept.places - 1 } else kept
+keep kept (Some link) = if nat_lt 0 kept.places then record {
+  links = kept.links ++ link ∷ [];
+  places = kept.places - 1;
+} else kept
 
 -- a link that is handed out leaves its place
 abbrev pub leave : {L : Type 0} → KeptLinks L → Option L → KeptLinks L
 leave kept link = record { links = kept.links; places = kept.places + length (option_list link) }
 
--- what a contract sees of ports in memory: the links to come, those given back, the port of the last connect that gave a link,
--- the calls made, the numbers of those that fail, and the failed calls so far
+-- what a contract sees of ports in memory: the links to come, those given back, the port of the last connect that
+-- gave a link, the calls made, the numbers of those that fail, and the failed calls so far
 pub record MemoryPorts (L : Type 0) : Type 0 where
   pub coming : List L
   pub kept : KeptLinks L
@@ -70,10 +74,15 @@ with_fault ports = record ports { calls = raised ports.calls; faults = raised po
 -- the calls answer so: the next links come in turn, but where the number of a call is one of those that fail
 abbrev pub AnswersFrom : {L : Type 0} → List L → ℕ → List ℕ → List (PortsStep L (MemoryDoor L)) → Type 0
 AnswersFrom coming calls fails [] = Unit {0}
-AnswersFrom coming calls fails (Listened port door ∷ rest) = (Contains fails calls → ⊥) × (door ≡ record { port = port; waiting = first_of coming; back = None }) × AnswersFrom (drop 1 coming) (raised calls) fails rest
-AnswersFrom coming calls fails (NoDoor port ∷ rest) = Contains fails calls × AnswersFrom coming (raised calls) fails rest
-AnswersFrom coming calls fails (Connected port link ∷ rest) = (Contains fails calls → ⊥) × (first_of coming ≡ Some link) × AnswersFrom (drop 1 coming) (raised calls) fails rest
-AnswersFrom coming calls fails (NoConnection port ∷ rest) = (Contains fails calls ⊎ (coming ≡ [])) × AnswersFrom coming (raised calls) fails rest
+AnswersFrom coming calls fails (Listened port door ∷ rest) = (Contains fails calls → ⊥)
+    × (door ≡ record { port = port; waiting = first_of coming; back = None })
+    × AnswersFrom (drop 1 coming) (raised calls) fails rest
+AnswersFrom coming calls fails (NoDoor port ∷ rest) = Contains fails calls
+    × AnswersFrom coming (raised calls) fails rest
+AnswersFrom coming calls fails (Connected port link ∷ rest) = (Contains fails calls → ⊥) × (first_of coming ≡ Some link)
+    × AnswersFrom (drop 1 coming) (raised calls) fails rest
+AnswersFrom coming calls fails (NoConnection port ∷ rest) = (Contains fails calls ⊎ (coming ≡ []))
+    × AnswersFrom coming (raised calls) fails rest
 AnswersFrom coming calls fails (BackToPorts link ∷ rest) = ⊥
 AnswersFrom coming calls fails (ShutDoor door ∷ rest) = ⊥
 

@@ -25,7 +25,8 @@ abbrev pub first_word : List ℕ → ℕ
 first_word [] = 0
 first_word (word ∷ left) = word
 
--- the looks to come, the bytes sent, the room for more, the sends made, the numbers of those that fail, and the failed calls so far
+-- the looks to come, the bytes sent, the room for more, the sends made, the numbers of those that fail, and the
+-- failed calls so far
 pub record MemoryLink : Type 0 where
   pub left : List Looked
   pub sent : List ℕ
@@ -65,6 +66,8 @@ after_send link = record link { calls = raised link.calls }
 abbrev pub after_fault : MemoryLink → MemoryLink
 after_fault link = record link { calls = raised link.calls; faults = raised link.faults }
 
--- a send fails: it is one of those that are to fail, and sends nothing, or the room is too small, and it sends what fits
+-- a send fails: it is one of those that are to fail, and sends nothing, or the room is too small, and it sends what
+-- fits
 abbrev pub FailsToSend : MemoryLink → MemoryLink → List ℕ → Type 0
-FailsToSend old new bytes = (Contains old.fails old.calls × (new ≡ after_fault old)) ⊎ ((Contains old.fails old.calls → ⊥) × (old.room < length bytes) × (new ≡ after_fault (with_sent old bytes)))
+FailsToSend old new bytes = (Contains old.fails old.calls × (new ≡ after_fault old))
+    ⊎ ((Contains old.fails old.calls → ⊥) × (old.room < length bytes) × (new ≡ after_fault (with_sent old bytes)))

@@ -62,7 +62,8 @@ impl Door for MemDoor {
 
     fn accept(&mut self) -> Accepted<MemLink>
         ensures gives { Draws (ComesFrom self.old.waiting) (ComesFrom self.new.waiting) (answered result ∷ []) }
-        ensures did { Grows (DidSteps self.old.waiting self.old.back) (DidSteps self.new.waiting self.new.back) (answered result ∷ []) }
+        ensures did { Grows (DidSteps self.old.waiting self.old.back) (DidSteps self.new.waiting self.new.back)
+            (answered result ∷ []) }
         ensures port { (n : ℕ) → self.old.port ≡ n → self.new.port ≡ n }
         ensures fine { result ≢ Accepted.Failed }
         ensures answer { result ≡ accepted self.old.waiting }
@@ -73,7 +74,8 @@ impl Door for MemDoor {
 
     fn back(&mut self, link: MemLink)
         ensures gives { Draws (ComesFrom self.old.waiting) (ComesFrom self.new.waiting) [] }
-        ensures did { Grows (DidSteps self.old.waiting self.old.back) (DidSteps self.new.waiting self.new.back) (BackLink link ∷ []) }
+        ensures did { Grows (DidSteps self.old.waiting self.old.back) (DidSteps self.new.waiting self.new.back)
+            (BackLink link ∷ []) }
         ensures port { (n : ℕ) → self.old.port ≡ n → self.new.port ≡ n }
         ensures after { self.new ≡ record self.old { back = Some link } }
     {

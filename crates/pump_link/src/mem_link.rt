@@ -1,8 +1,10 @@
 // A link in memory.
-ghost use Rattle.std.specs.Prelude.{◌≡◌, ◌-◌, ◌≤◌, ◌<◌, ◌↔◌, ◌⊎◌, [], ◌∷◌, length, take, drop, Contains, IsErr, IsTrue, OnOk, OnErr};
+ghost use Rattle.std.specs.Prelude.{◌≡◌, ◌-◌, ◌≤◌, ◌<◌, ◌↔◌, ◌⊎◌, [], ◌∷◌, length, take, drop, Contains, IsErr, IsTrue};
+ghost use Rattle.std.specs.Prelude.{OnOk, OnErr};
 ghost use Rattle.pump_frame.specs.Counts.{Rose};
 ghost use Rattle.pump_link.specs.Causes.{HasCause};
-ghost use Rattle.pump_link.specs.Running.{MemoryLink, LooksFrom, first_look, after_look, with_sent, after_send, FailsToSend};
+ghost use Rattle.pump_link.specs.Running.{MemoryLink, LooksFrom, first_look, after_look, with_sent, after_send};
+ghost use Rattle.pump_link.specs.Running.{FailsToSend};
 ghost use Rattle.pump_link.specs.Tells.{Draws, Grows, Sends};
 
 use crate::link::{Link, Looked, SendFault};
@@ -25,7 +27,15 @@ pub struct MemLink {
 impl Model for MemLink {
     ghost Value = { MemoryLink };
 
-    ghost view = { λ s. record { left = drop s.at s.arrivals.items; sent = take s.sent s.room.items; room = length s.room.items - s.sent; calls = s.calls; fails = s.fails.items; faults = s.faults } };
+    ghost view = { λ s. record {
+      left = drop s.at s.arrivals.items;
+      sent = take s.sent s.room.items;
+      room = length
+          s.room.items - s.sent;
+      calls = s.calls;
+      fails = s.fails.items;
+      faults = s.faults;
+    } };
 
     ghost invariant = { λ s. (s.at ≤ length s.arrivals.items) × (s.sent ≤ length s.room.items) };
 }
@@ -35,7 +45,14 @@ impl MemLink {
     /// given. The sends with the numbers `fails`, from 0, fail and send nothing; a send without
     /// room sends what fits and fails.
     pub fn new(arrivals: Vec<Looked>, room: Vec<u8>, fails: Vec<u64>) -> MemLink
-        ensures { result ≡ record { left = arrivals.items; sent = []; room = length room.items; calls = 0; fails = fails.items; faults = 0 } }
+        ensures { result ≡ record {
+          left = arrivals.items;
+          sent = [];
+          room = length room.items;
+          calls = 0;
+          fails = fails.items;
+          faults = 0;
+        } }
     {
         MemLink {
             arrivals,

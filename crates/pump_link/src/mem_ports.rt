@@ -1,8 +1,10 @@
 // Ports in memory.
-ghost use Rattle.std.specs.Prelude.{◌≡◌, ◌-◌, ◌≤◌, ◌↔◌, ◌⊎◌, [], ◌∷◌, take, drop, length, Contains, None, Some, IsErr, IfOk, OnOk, OnErr, IsTrue, if◌then◌else◌, vec_capacity, vec_len};
+ghost use Rattle.std.specs.Prelude.{◌≡◌, ◌-◌, ◌≤◌, ◌↔◌, ◌⊎◌, [], ◌∷◌, take, drop, length, Contains, None, Some, IsErr};
+ghost use Rattle.std.specs.Prelude.{IfOk, OnOk, OnErr, IsTrue, if◌then◌else◌, vec_capacity, vec_len};
 ghost use Rattle.pump_link.specs.Causes.{HasCause};
 ghost use Rattle.pump_link.specs.Doors.{DidSteps};
-ghost use Rattle.pump_link.specs.Ports.{MemoryPorts, BackToPorts, ShutDoor, listened, connected, first_of, with_next_out, with_back, with_call, with_fault, GivesPorts, DidPorts};
+ghost use Rattle.pump_link.specs.Ports.{MemoryPorts, BackToPorts, ShutDoor, listened, connected, first_of};
+ghost use Rattle.pump_link.specs.Ports.{with_next_out, with_back, with_call, with_fault, GivesPorts, DidPorts};
 ghost use Rattle.pump_link.specs.Running.{MemoryLink};
 ghost use Rattle.pump_link.specs.Tells.{Draws, Grows};
 
@@ -129,7 +131,8 @@ impl Ports for MemPorts {
         ensures fresh { IfOk result (λ door. DidSteps door.waiting door.back []) }
         ensures cause { HasCause self.old.faults self.new.faults result }
         ensures fails { IsErr result ↔ Contains self.old.fails self.old.calls }
-        ensures door { IfOk result (λ door. door ≡ record { port = port; waiting = first_of self.old.coming; back = None }) }
+        ensures door { IfOk result (λ door. door
+            ≡ record { port = port; waiting = first_of self.old.coming; back = None }) }
         ensures ok { OnOk result (self.new ≡ with_call (with_next_out self.old)) }
         ensures err { OnErr result (self.new ≡ with_fault self.old) }
     {

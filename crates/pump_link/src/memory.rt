@@ -1,5 +1,6 @@
 // A source and a sink in memory.
-ghost use Rattle.std.specs.Prelude.{◌≡◌, ◌-◌, ◌<◌, ◌≤◌, ◌↔◌, ◌⊎◌, [], ◌++◌, length, take, drop, min, Contains, Some, IfOk, OnErr, IsErr};
+ghost use Rattle.std.specs.Prelude.{◌≡◌, ◌-◌, ◌<◌, ◌≤◌, ◌↔◌, ◌⊎◌, [], ◌++◌, length, take, drop, min, Contains, Some};
+ghost use Rattle.std.specs.Prelude.{IfOk, OnErr, IsErr};
 ghost use Rattle.std.specs.Io.{ReadsAtMost};
 ghost use Rattle.std.specs.Io.KnownBytes.{ReadConsumes, WriteAppends};
 ghost use Rattle.pump_frame.specs.Counts.{raised};
@@ -26,7 +27,13 @@ pub struct MemSource {
 impl Model for MemSource {
     ghost Value = { MemorySource };
 
-    ghost view = { λ s. record { left = drop s.at s.bytes.items; piece = s.piece; calls = s.calls; fails = s.fails.items; faults = s.faults } };
+    ghost view = { λ s. record {
+      left = drop s.at s.bytes.items;
+      piece = s.piece;
+      calls = s.calls;
+      fails = s.fails.items;
+      faults = s.faults;
+    } };
 
     ghost invariant = { λ s. (s.at ≤ length s.bytes.items) × (0 < s.piece) };
 }
@@ -63,8 +70,10 @@ impl Source for MemSource {
         ensures cause { HasCause self.old.faults self.new.faults result }
         ensures fails { IsErr result ↔ Contains self.old.fails self.old.calls }
         ensures pieces { IfOk result (λ n. n ≡ min self.old.piece (min (length into.old) (length self.old.left))) }
-        ensures ok { IfOk result (λ n. self.new ≡ record self.old { left = drop n self.old.left; calls = raised self.old.calls }) }
-        ensures err { OnErr result (self.new ≡ record self.old { calls = raised self.old.calls; faults = raised self.old.faults }) }
+        ensures ok { IfOk result (λ n. self.new
+            ≡ record self.old { left = drop n self.old.left; calls = raised self.old.calls }) }
+        ensures err { OnErr result (self.new
+            ≡ record self.old { calls = raised self.old.calls; faults = raised self.old.faults }) }
     {
         let number = self.calls;
         self.calls = raised(number);
@@ -98,7 +107,14 @@ pub struct MemSink {
 impl Model for MemSink {
     ghost Value = { MemorySink };
 
-    ghost view = { λ s. record { written = take s.at s.bytes.items; room = length s.bytes.items - s.at; piece = s.piece; calls = s.calls; fails = s.fails.items; faults = s.faults } };
+    ghost view = { λ s. record {
+      written = take s.at s.bytes.items;
+      room = length s.bytes.items - s.at;
+      piece = s.piece;
+      calls = s.calls;
+      fails = s.fails.items;
+      faults = s.faults;
+    } };
 
     ghost invariant = { λ s. (s.at ≤ length s.bytes.items) × (0 < s.piece) };
 }
@@ -108,7 +124,14 @@ impl MemSink {
     /// `fails`, from 0, fail, and so does one without room.
     pub fn new(room: Vec<u8>, piece: usize, fails: Vec<u64>) -> Self
         requires { 0 < piece }
-        ensures { result ≡ record { written = []; room = length room.items; piece = piece; calls = 0; fails = fails.items; faults = 0 } }
+        ensures { result ≡ record {
+          written = [];
+          room = length room.items;
+          piece = piece;
+          calls = 0;
+          fails = fails.items;
+          faults = 0;
+        } }
     {
         MemSink {
             bytes: room,
@@ -140,8 +163,15 @@ impl Sink for MemSink {
         ensures cause { HasCause self.old.faults self.new.faults result }
         ensures fails { IsErr result ↔ ((self.old.room ≡ 0) ⊎ Contains self.old.fails self.old.calls) }
         ensures pieces { IfOk result (λ n. n ≡ min self.old.piece (min (length bytes.now) self.old.room)) }
-        ensures ok { IfOk result (λ n. self.new ≡ record self.old { written = self.old.written ++ take n bytes.now; room = self.old.room - n; calls = raised self.old.calls }) }
-        ensures err { OnErr result (self.new ≡ record self.old { calls = raised self.old.calls; faults = raised self.old.faults }) }
+        ensures ok { IfOk result (λ n. self.new
+            ≡ record self.old {
+              written = self.old.written ++ take n bytes.now;
+              room = self.old.room - n;
+              calls = raised
+                  self.old.calls;
+            }) }
+        ensures err { OnErr result (self.new
+            ≡ record self.old { calls = raised self.old.calls; faults = raised self.old.faults }) }
     {
         let number = self.calls;
         self.calls = raised(number);

@@ -51,10 +51,15 @@ impl Clock for StepClock {
         ensures bound { result ≤ 2 ^ 62 }
         ensures from { self.old.next ≤ result }
         ensures to { result ≤ self.new.next }
-        ensures reads { Draws (StepsFrom self.old.next self.old.step) (StepsFrom self.new.next self.new.step) (result ∷ []) }
+        ensures reads { Draws (StepsFrom self.old.next self.old.step) (StepsFrom self.new.next self.new.step)
+            (result ∷ []) }
         ensures counted { self.new.readings ≡ raised self.old.readings }
         ensures now { result ≡ self.old.next }
-        ensures next { self.new ≡ record { next = min (self.old.next + self.old.step) (2 ^ 62); step = self.old.step; readings = raised self.old.readings } }
+        ensures next { self.new ≡ record {
+          next = min (self.old.next + self.old.step) (2 ^ 62);
+          step = self.old.step;
+          readings = raised self.old.readings;
+        } }
     {
         let now = self.next;
         self.next = now.saturating_add(self.step).min(LATEST);

@@ -2,7 +2,7 @@
 ghost use Rattle.std.specs.Prelude.{◌≡◌, ℕ, ◌<◌, ◌≤◌, List, Option, length, IfOk, OnOk, OnErr};
 ghost use Rattle.std.specs.Io.{ReadsAtMost};
 ghost use Rattle.std.specs.Io.KnownBytes.{Appends, ReadConsumes, WriteAppends};
-ghost use Rattle.pump_link.specs.Causes.{HasCause, AppendsFront};
+ghost use Rattle.pump_link.specs.Causes.{HasCause, AppendsPrefix};
 ghost use Rattle.pump_link.specs.Tells.{Draws};
 ghost use Rattle.pump_link.specs.Pieces.{piece_in};
 
@@ -62,7 +62,7 @@ pub trait Sink {
 /// rose, a prefix of them was written.
 pub fn write_all<O: Sink>(out: &mut O, bytes: &[u8]) -> Result<(), WriteFault>
     ensures ok { OnOk result (Appends (O.written out.old) (O.written out.new) bytes.now) }
-    ensures err { OnErr result (AppendsFront (O.written out.old) (O.written out.new) bytes.now) }
+    ensures err { OnErr result (AppendsPrefix (O.written out.old) (O.written out.new) bytes.now) }
     ensures cause { HasCause (O.faults out.old) (O.faults out.new) result }
 {
     let mut at = 0;

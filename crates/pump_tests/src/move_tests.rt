@@ -5,8 +5,9 @@ ghost use Rattle.std.specs.Prelude.{IfOk};
 ghost use Rattle.pump_frame.specs.Rows.{IsLawfulRow};
 
 use crate::held::Held;
-use crate::opening_tests::{high, low, receiver, row};
+use crate::opening_tests::{high, low, receiver};
 use disk_model::{Disk, MemDisk, Outcome, Role};
+use fixtures::row;
 use pump_frame::SessionRow;
 use recovery::{Migrated, MoveFault, Trio, migrate};
 use stable_buffer::Register;
@@ -17,7 +18,7 @@ use std::test::Fail;
 fn row_of(capacity: u32, message: u32) -> Result<SessionRow, Fail>
     ensures { IfOk result IsLawfulRow }
 {
-    let Some(row) = row() else {
+    let Some(row) = row(8) else {
         return Err(Fail::new("no row"));
     };
     let row = SessionRow {

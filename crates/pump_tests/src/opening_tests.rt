@@ -1,38 +1,15 @@
 //! The opening of disks of which one fails. What else is refused is in `tests/disks-refused.t`.
 
-ghost use Rattle.std.specs.Prelude.{IfSome};
-ghost use Rattle.pump_frame.specs.Rows.{IsLawfulRow};
-
 use crate::held::Held;
 use disk_model::{Disk, PlainDisk, Role};
+use fixtures::row;
 use passage::PlainEnds;
-use pump_frame::{Name, SessionRow};
 use recovery::{Why, open_pump};
 use std::alloc::Global;
 use std::test::Fail;
 
-// Session 1 of capacity 3 and message size 8.
-pub fn row() -> Option<SessionRow>
-    ensures { IfSome result IsLawfulRow }
-{
-    Some(SessionRow {
-        id: 1,
-        low: Name::from_slice(b"weather")?,
-        high: Name::from_slice(b"watch")?,
-        capacity: 3,
-        message: 8,
-        window: 2,
-        start: 20000,
-        longest: 100_000,
-        resend: 500_000,
-        low_port: 0,
-        high_port: 0,
-        coarse: false,
-    })
-}
-
 // The first 80 bytes of a disk of that row.
-fn front(letter: u8, first: u8, second: u8) -> [u8; 80] {
+fn prefix(letter: u8, first: u8, second: u8) -> [u8; 80] {
     let mut bytes = [0; 80];
     bytes[..6].copy_from_slice(&[b'N', b'P', b'D', b'1', letter, 2]);
     bytes[11] = 1;
@@ -46,7 +23,7 @@ fn front(letter: u8, first: u8, second: u8) -> [u8; 80] {
 // A disk of low's, with the messages a, b and c in its slots.
 pub fn low(accepted: u8) -> [u8; 110] {
     let mut bytes = [0; 110];
-    bytes[..80].copy_from_slice(&front(b'L', accepted, 0));
+    bytes[..80].copy_from_slice(&prefix(b'L', accepted, 0));
     bytes[81] = 1;
     bytes[82] = b'a';
     bytes[91] = 1;
@@ -57,13 +34,13 @@ pub fn low(accepted: u8) -> [u8; 110] {
 }
 
 pub fn high(removed: u8) -> [u8; 80] {
-    front(b'H', removed, 0)
+    prefix(b'H', removed, 0)
 }
 
 // A disk of the receiver's, with the messages a and b.
 pub fn receiver() -> [u8; 86] {
     let mut bytes = [0; 86];
-    bytes[..80].copy_from_slice(&front(b'R', 2, 86));
+    bytes[..80].copy_from_slice(&prefix(b'R', 2, 86));
     bytes[80..86].copy_from_slice(&[0, 1, b'a', 0, 1, b'b']);
     bytes
 }
@@ -82,7 +59,7 @@ fn refused_for(
     low: Held<PlainDisk>,
     high: Held<PlainDisk>,
 ) -> Result<Option<(Role, Why)>, Fail> {
-    let Some(row) = row() else {
+    let Some(row) = row(8) else {
         return Err(Fail::new("no row"));
     };
     let mut ends = PlainEnds::new(alloc, &row)?;

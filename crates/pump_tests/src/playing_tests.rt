@@ -2,7 +2,6 @@
 //! `tests/pump-packets.t`.
 
 ghost use Rattle.std.specs.Prelude.{◌≡◌, ◌<◌, false, IfSome, IfOk};
-ghost use Rattle.pump_frame.specs.Rows.{IsLawfulRow};
 ghost use Rattle.two_worlds.specs.LowPumps.{stops_at_disk};
 ghost use Rattle.two_worlds.specs.Pumps.{is_down};
 
@@ -10,33 +9,13 @@ use crate::held::Held;
 use crate::move_tests::numbers;
 use arrayvec::ArrayVec;
 use disk_model::{Disk, MemDisk, Outcome, Role};
-use pump_frame::{Name, SessionRow};
+use fixtures::row;
 use script_reader::{print_event, read_line};
 use std::alloc::Global;
 use std::test::Fail;
 use two_worlds::{Pump, Stop};
 
 const HELLO: &str = "look 1 10 00000000 hello weather watch";
-
-// Session 1: capacity 3, message size 8, window 2, start 20000, longest delay 100000.
-pub fn row() -> Option<SessionRow>
-    ensures lawful { IfSome result (λ row. IsLawfulRow row) }
-{
-    Some(SessionRow {
-        id: 1,
-        low: Name::from_slice(b"weather")?,
-        high: Name::from_slice(b"watch")?,
-        capacity: 3,
-        message: 8,
-        window: 2,
-        start: 20000,
-        longest: 100_000,
-        resend: 500_000,
-        low_port: 0,
-        high_port: 0,
-        coarse: false,
-    })
-}
 
 // Adds what the lines print, until one stops.
 pub fn play<D: Disk>(
@@ -68,7 +47,7 @@ pub fn play<D: Disk>(
 fn failing_pump(alloc: Global, fails: u64) -> Result<Option<Pump<MemDisk>>, Fail>
     ensures up { IfOk result (λ made. IfSome made (λ pump. is_down pump ≡ false)) }
 {
-    let Some(row) = row() else {
+    let Some(row) = row(8) else {
         return Err(Fail::new("no row"));
     };
     let low = Held(MemDisk::new(alloc, 4096, 64, vec![in alloc; fails]?)?);

@@ -4,8 +4,9 @@ ghost use Rattle.std.specs.Prelude.{◌≡◌, ◌<◌, false, IfOk};
 ghost use Rattle.two_worlds.specs.Pumps.{is_down};
 
 use crate::held::Held;
-use crate::playing_tests::{play, row};
+use crate::playing_tests::play;
 use disk_model::{MemDisk, Outcome, Role};
+use fixtures::row;
 use recovery::Why;
 use stable_buffer::format;
 use std::alloc::Global;
@@ -56,7 +57,7 @@ type Counts = (u64, u64, u64);
 // A formatted disk of the session, of which this call fails, counted from the first one of the
 // formatting; `None` where that is one of these.
 fn formatted(alloc: Global, role: Role, fails: Vec<u64>) -> Result<Option<Held<MemDisk>>, Fail> {
-    let Some(row) = row() else {
+    let Some(row) = row(8) else {
         return Err(Fail::new("no row"));
     };
     let mut disk = Held(MemDisk::new(alloc, 128, 64, fails)?);
@@ -94,7 +95,7 @@ fn failing_disks(alloc: Global, failing: Role, call: u64) -> Result<Option<Disks
 fn open(alloc: Global, disks: Disks) -> Result<Result<Pump<MemDisk>, NotOpen<MemDisk>>, Fail>
     ensures up { IfOk result (λ opened. IfOk opened (λ pump. is_down pump ≡ false)) }
 {
-    let Some(row) = row() else {
+    let Some(row) = row(8) else {
         return Err(Fail::new("no row"));
     };
     let Disks { low, high, recv } = disks;

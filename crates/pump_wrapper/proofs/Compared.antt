@@ -3,12 +3,12 @@ use Rattle.std.proofs.Common.{◌≡◌, ℕ, ◌+◌, ◌<◌, true, false, Lis
 use Rattle.std.specs.Io.KnownBytes.{Consumes}
 use Rattle.std.proofs.KnownBytes.{Consumes-trans}
 use Rattle.std.proofs.lemmas.List.{append_cancel_left}
-use Rattle.pump_wrapper.specs.Cutting.{to_come, Counts, Gave, GivesNext, IsTotal, Takes}
+use Rattle.file_cutter.specs.declared.pieces.Cut.{Cut}
+use Rattle.file_cutter.specs.declared.pieces.Cut.TheVariants.{Message, Done}
+use Rattle.file_cutter.specs.declared.pieces.Cut.TheVariants as cuts
+use Rattle.pump_wrapper.specs.Cutting.{to_come, cut_bytes, Counts, Gave, GivesNext, IsTotal, Takes}
 use Rattle.pump_wrapper.specs.Comparing.{Compares, SameBytes, TakesInAll}
 use Rattle.pump_wrapper.specs.declared.cutter.Cutter.{Cutter}
-use Rattle.pump_wrapper.specs.declared.cutter.Cut.{Cut}
-use Rattle.pump_wrapper.specs.declared.cutter.Cut.TheVariants.{Message, Done}
-use Rattle.pump_wrapper.specs.declared.cutter.Cut.TheVariants as cuts
 use Rattle.pump_wrapper.specs.declared.compare.CompareFault.{CompareFault}
 use Rattle.pump_wrapper.specs.declared.compare.CompareFault.TheVariants.{Differs, TooLong}
 
@@ -70,7 +70,7 @@ differs_there messages n message wanted old mid new (Some l) (Some b) (Some r) t
 
 -- ---- the bytes that were read ----
 
-module _ (start old new : Cutter) (left between rest : Option (List ℕ)) (taken bytes : List ℕ) (cut : Cut) (was : Consumes left between taken) (count : old.bytes ≡ start.bytes + length taken) (more : Consumes between rest bytes)
+module _ (start old new : Cutter) (left between rest : Option (List ℕ)) (taken bytes : List ℕ) (cut : Cut) (was : Consumes left between taken) (count : cut_bytes old ≡ (cut_bytes start) + length taken) (more : Consumes between rest bytes)
     (takes : Takes cut old new bytes) where
   all : Consumes left rest (taken ++ bytes)
   all = Consumes-trans _ _ _ _ _ was more
@@ -86,17 +86,17 @@ module _ (start old new : Cutter) (left between rest : Option (List ℕ)) (taken
   pub takes_long : cut ≡ cuts.TooLong → TakesInAll start new left rest (Err TooLong)
   takes_long is = let full = takes.long is in (taken ++ bytes, all, (λ e. omega (arith, full, count, size)), (λ e. absurd (e refl)), λ e. absurd (cc))
 
-  pub takes_on : (cut ≡ cuts.Failed → ⊥) → (xs : List ℕ) × Consumes left rest xs × (new.bytes ≡ start.bytes + length xs)
+  pub takes_on : (cut ≡ cuts.Failed → ⊥) → (xs : List ℕ) × Consumes left rest xs × ((cut_bytes new) ≡ (cut_bytes start) + length xs)
   takes_on other = let next = takes.counted other in (taken ++ bytes, all, omega (arith, next, count, size))
 
-  pub gave_few : (cut ≡ cuts.TooLong → ⊥) → Gave start.bytes left rest false
+  pub gave_few : (cut ≡ cuts.TooLong → ⊥) → Gave (cut_bytes start) left rest false
   gave_few short = let few = takes.short short in (taken ++ bytes, all, (λ e. absurd (cc)), λ e. omega (arith, few, count, size))
 
-  pub gave_all : cut ≡ cuts.TooLong → Gave start.bytes left rest true
+  pub gave_all : cut ≡ cuts.TooLong → Gave (cut_bytes start) left rest true
   gave_all is = let full = takes.long is in (taken ++ bytes, all, (λ e. omega (arith, full, count, size)), λ e. absurd (cc))
 
 -- all bytes of the file were read
-pub total_is : (start now new : Cutter) (left rest last : Option (List ℕ)) (taken bytes : List ℕ) → Consumes left rest taken → Consumes rest last bytes → SameBytes start now left rest → Counts Done now new rest last → IsTotal start left new.bytes
+pub total_is : (start now new : Cutter) (left rest last : Option (List ℕ)) (taken bytes : List ℕ) → Consumes left rest taken → Consumes rest last bytes → SameBytes start now left rest → Counts Done now new rest last → IsTotal start left (cut_bytes new)
 total_is start now new None rest last taken bytes c d same counts = tt
 total_is start now new (Some l) None last taken bytes c d same counts = absurd c
 total_is start now new (Some l) (Some r) None taken bytes c d same counts = absurd d

@@ -14,11 +14,11 @@ use Rattle.two_worlds.specs.declared.applied.Stop.{Stop}
 use Rattle.two_worlds.specs.declared.pump.Pump.{Pump}
 use Rattle.two_worlds.specs.Pumps.{StandsFor, disk_at, row_of}
 use Rattle.pump_wrapper.specs.Comparing.{Begins}
-use Rattle.pump_wrapper.specs.Crashes.{KeepsFront}
+use Rattle.pump_wrapper.specs.Crashes.{KeepsPrefix}
 use Rattle.pump_wrapper.specs.Sending.{turn_lines, drain_lines, LedBy, Follows, EndsWithin, Goes}
 use Rattle.pump_wrapper.specs.Halting.{Halts}
 use Rattle.pump_wrapper.specs.Wraps.{Drains}
-use Rattle.pump_wrapper.proofs.Fronts.{begins_same}
+use Rattle.pump_wrapper.proofs.Prefixes.{begins_same}
 use Rattle.pump_wrapper.proofs.Going.{led_then}
 use Rattle.pump_wrapper.proofs.Applying.{LinesApply, lines_lead, Emptying, turn_empties, drain_more}
 use Rattle.pump_wrapper.proofs.Halting.{turn_halts, halts, ends_within}
@@ -79,11 +79,11 @@ module _ {D : Type 0} {g : _} (m : Meaning D) (row : SessionRow) (f : Found) whe
 
   -- at any moment of a turn, whatever it comes to
   pub turn_keeps : (u t : Pump D g) (n : ℕ) (r : Result (Unit {0}) Stop) (all : List Payload) → Turned m u row f n → f.removed + n < length (accepted_in f) → n ≤ 2 ^ 32 → row_of u ≡ row → m.tells → Begins (accepted_in f) all
-      → Goes m u t (turn_lines (row_of u) (2 * n)) r → KeepsFront m row all (disk_at roles.Recv u) (disk_at roles.Recv t)
+      → Goes m u t (turn_lines (row_of u) (2 * n)) r → KeepsPrefix m row all (disk_at roles.Recv u) (disk_at roles.Recv t)
   turn_keeps u t n r all turned some small same told begins goes =
       let stop_at = turn_halts row turned.past (length (accepted_in f)) (f.removed + n) (2 * n) (2 * n) (accepted_in f) turned.empties (omega arith) some in
       let within = ends_within m t row turned.past (turn_lines row (2 * n)) _ (accepted_in f) (accepted_in f) (turn_on u n turned some small) stop_at (λ q after. begins_same q.world.accepted (accepted_in f) (sym after.2)) all begins r in
-      subst (λ (x : SessionRow). KeepsFront m x all (disk_at roles.Recv u) (disk_at roles.Recv t)) same
+      subst (λ (x : SessionRow). KeepsPrefix m x all (disk_at roles.Recv u) (disk_at roles.Recv t)) same
       (goes.keeps told turned.past turned.stands all (subst (λ (x : SessionRow). EndsWithin m t x turned.past (turn_lines x (2 * n)) all r) (sym same) within))
 
   -- nothing is left

@@ -23,15 +23,15 @@ use Rattle.pump_wrapper.specs.Cutting.{Gave, to_come}
 use Rattle.pump_wrapper.specs.Halting.{Halts, HaltsBy}
 use Rattle.pump_wrapper.specs.Sending.{RoseBy}
 use Rattle.pump_wrapper.specs.Wraps.{AreFirst, AreToCome, HasAll, HasPassed, IsSent, Passes, SendCause, Sends, all_taken, end_of_sending, is_long_in, is_too_long}
-use Rattle.pump_wrapper.specs.Crashes.{LeavesFront}
-use Rattle.pump_wrapper.specs.WrapEnds.{BeginFile, Continues, Ends, EndsAt, EndsOn, HasDiskCause, IsEarly, IsStopped, LeavesFrontBy, RefusesDisks}
+use Rattle.pump_wrapper.specs.Crashes.{LeavesPrefix}
+use Rattle.pump_wrapper.specs.WrapEnds.{BeginFile, Continues, Ends, EndsAt, EndsOn, HasDiskCause, IsEarly, IsStopped, LeavesPrefixBy, RefusesDisks}
 use Rattle.pump_wrapper.specs.declared.cutter.Cutter.{Cutter}
 use Rattle.pump_wrapper.specs.declared.file_sender.WrapEnd.{WrapEnd}
 use Rattle.pump_wrapper.specs.declared.file_sender.WrapEnd.TheVariants as ends
-use Rattle.pump_wrapper.proofs.Fronts.{begins_same, begins_more, begins_then, begins_both, begins_file, kept_none}
+use Rattle.pump_wrapper.proofs.Prefixes.{begins_same, begins_more, begins_then, begins_both, begins_file, kept_none}
 use Rattle.pump_wrapper.proofs.Going.{rose_later}
 use Rattle.pump_wrapper.proofs.Holding.{stand_for_all, state_sound}
-use Rattle.pump_wrapper.proofs.Leaving.{FoundAgain, found_again, found_between, no_room_now, leaves_front, front_wider}
+use Rattle.pump_wrapper.proofs.Leaving.{FoundAgain, found_again, found_between, no_room_now, leaves_prefix, prefix_wider}
 
 -- ---- causes ----
 
@@ -103,16 +103,16 @@ module _ {D : Type 0} (m : Meaning D) (row : SessionRow) (disks : Trio D) where
           ends = stop_is told f stop h.by;
         }
 
-    pub halts_front : (all : List Payload) → Begins most all → m.tells_images → LeavesFront m row all disks.recv
-    halts_front all begins told = leaves_front m row h.past.world disks.low disks.high disks.recv all leaves (begins_then _ most all h.between.to begins) told
+    pub halts_prefix : (all : List Payload) → Begins most all → m.tells_images → LeavesPrefix m row all disks.recv
+    halts_prefix all begins told = leaves_prefix m row h.past.world disks.low disks.high disks.recv all leaves (begins_then _ most all h.between.to begins) told
 
   -- a pump that is empty leaves just its messages
-  pub passed_front : {g : _} (t : Pump D g) → ((q : Past) → StandsOrFails m t q → LeaveWorld m row q.world disks.low disks.high disks.recv) → (messages all : List Payload) → Passes m t messages → Begins messages all → m.tells_images
-      → LeavesFront m row all disks.recv
-  passed_front t leave messages all (q, stands, passed) begins told =
+  pub passed_prefix : {g : _} (t : Pump D g) → ((q : Past) → StandsOrFails m t q → LeaveWorld m row q.world disks.low disks.high disks.recv) → (messages all : List Payload) → Passes m t messages → Begins messages all → m.tells_images
+      → LeavesPrefix m row all disks.recv
+  passed_prefix t leave messages all (q, stands, passed) begins told =
       let rest = (state_sound m t.state q stands).rest in
       let is : with_kept true q.world.storing q.world.accepted ≡ messages = kept_none true q.world.storing q.world.accepted rest.storing ∙ passed.accepted in
-      leaves_front m row q.world disks.low disks.high disks.recv all (leave q (inl stands)) (begins_then _ messages all (begins_same _ messages (sym is)) begins) told
+      leaves_prefix m row q.world disks.low disks.high disks.recv all (leave q (inl stands)) (begins_then _ messages all (begins_same _ messages (sym is)) begins) told
 
 -- all that were to come are the first ones
 pub first_of_all : (cutter : Cutter) (left : Option (List ℕ)) (more : List Payload) → AreToCome cutter left more → AreFirst cutter left more
@@ -138,15 +138,15 @@ module _ {D : Type 0} {g : _} (m : Meaning D) (row : SessionRow) (disks : Trio D
   sent_ends whole (Err (ends.Differs n)) h told continues = absurd h
   sent_ends whole (Err (ends.Refused role why)) h told continues = absurd h
 
-  pub sent_front : (all : List Payload) (sent : Result ℕ WrapEnd) → Sends m t row messages cutter left sent → m.tells_images → ((more : List Payload) → AreFirst cutter left more → Begins (messages ++ more) all) → LeavesFront m row all disks.recv
-  sent_front all (Ok count) (more, q, led, stands, passed, is, come) told continues = passed_front m row disks t leave (messages ++ more) all (q, stands, passed) (continues more (first_of_all cutter left more come)) told
-  sent_front all (Err (ends.Stopped stop)) (more, first, h) told continues = halts_front m row disks t leave messages (messages ++ more) stop h all (continues more first) told
-  sent_front all (Err ends.Read) (more, first, passes) told continues = passed_front m row disks t leave (messages ++ more) all passes (continues more first) told
-  sent_front all (Err ends.TooLong) (more, first, passes) told continues = passed_front m row disks t leave (messages ++ more) all passes (continues more first) told
-  sent_front all (Err ends.Memory) h told continues = absurd h
-  sent_front all (Err (ends.Done b n)) h told continues = absurd h
-  sent_front all (Err (ends.Differs n)) h told continues = absurd h
-  sent_front all (Err (ends.Refused role why)) h told continues = absurd h
+  pub sent_prefix : (all : List Payload) (sent : Result ℕ WrapEnd) → Sends m t row messages cutter left sent → m.tells_images → ((more : List Payload) → AreFirst cutter left more → Begins (messages ++ more) all) → LeavesPrefix m row all disks.recv
+  sent_prefix all (Ok count) (more, q, led, stands, passed, is, come) told continues = passed_prefix m row disks t leave (messages ++ more) all (q, stands, passed) (continues more (first_of_all cutter left more come)) told
+  sent_prefix all (Err (ends.Stopped stop)) (more, first, h) told continues = halts_prefix m row disks t leave messages (messages ++ more) stop h all (continues more first) told
+  sent_prefix all (Err ends.Read) (more, first, passes) told continues = passed_prefix m row disks t leave (messages ++ more) all passes (continues more first) told
+  sent_prefix all (Err ends.TooLong) (more, first, passes) told continues = passed_prefix m row disks t leave (messages ++ more) all passes (continues more first) told
+  sent_prefix all (Err ends.Memory) h told continues = absurd h
+  sent_prefix all (Err (ends.Done b n)) h told continues = absurd h
+  sent_prefix all (Err (ends.Differs n)) h told continues = absurd h
+  sent_prefix all (Err (ends.Refused role why)) h told continues = absurd h
 
 -- ---- an early end ----
 
@@ -196,7 +196,7 @@ refuses_never m row whole old new disks (ends.Differs n) on = tt
 refuses_never m row whole old new disks (ends.Stopped stop) on = tt
 
 -- images of disks that hold all messages
-pub front_again : {D : Type 0} (m : Meaning D) (row : SessionRow) (messages all : List Payload) (old new : Trio D) (end : WrapEnd) → LeavesFront m row messages old.recv → Begins messages all
-    → (Begins (accepted_in (all_taken messages)) all → LeavesFrontBy m row old end new all) → LeavesFront m row all new.recv
-front_again m row messages all old new end front begins next =
-    next (begins_then _ messages all (begins_same _ messages (sym (append-nil messages))) begins) (λ is. front_wider m row messages all old.recv begins front)
+pub prefix_again : {D : Type 0} (m : Meaning D) (row : SessionRow) (messages all : List Payload) (old new : Trio D) (end : WrapEnd) → LeavesPrefix m row messages old.recv → Begins messages all
+    → (Begins (accepted_in (all_taken messages)) all → LeavesPrefixBy m row old end new all) → LeavesPrefix m row all new.recv
+prefix_again m row messages all old new end prefix begins next =
+    next (begins_then _ messages all (begins_same _ messages (sym (append-nil messages))) begins) (λ is. prefix_wider m row messages all old.recv begins prefix)

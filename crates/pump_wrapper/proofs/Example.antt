@@ -2,7 +2,8 @@
 use Rattle.std.proofs.Common.{◌≡◌, [], ◌∷◌, refl}
 use Rattle.std.specs.Prelude.{codes}
 use Rattle.high_receiver.specs.Receiving.{record_at}
-use Rattle.pump_wrapper.specs.Wrapped.{pieces, length_message, wrapped}
+use Rattle.file_messages.specs.Cuts.{pieces}
+use Rattle.pump_wrapper.specs.Wrapped.{length_message, wrapped}
 
 twelve_bytes : wrapped 12 (codes "hello, world") ≡ (0 ∷ codes "hello, worl") ∷ (0 ∷ codes "d") ∷ (1 ∷ 0 ∷ 0 ∷ 0 ∷ 0 ∷ 0 ∷ 0 ∷ 0 ∷ 12 ∷ []) ∷ []
 unfolding pieces length_message

@@ -3,7 +3,8 @@ use Rattle.std.proofs.Common.{◌≡◌, ℕ, ◌+◌, ◌-◌, ◌<◌, ◌≤�
 use Rattle.std.proofs.Math.Seq.{take-append_seam, drop-append_seam}
 use Rattle.std.proofs.Math.ListN.{drop_of_length-le}
 use Rattle.std.proofs.lemmas.List.{take_all, append-nil}
-use Rattle.pump_wrapper.specs.Wrapped.{IsPiece, piece_message, length_message, wrapped, IsFile, BeginsFile}
+use Rattle.file_messages.specs.Messages.{piece_message}
+use Rattle.pump_wrapper.specs.Wrapped.{IsPiece, length_message, wrapped, IsFile, BeginsFile}
 use Rattle.pump_wrapper.specs.Cutting.{wrapped_from}
 use Rattle.pump_wrapper.specs.Gathering.{Follows, FollowsOn, HasTaken, Steps, Refuses}
 use Rattle.pump_wrapper.specs.declared.gathering.Before.{Before}

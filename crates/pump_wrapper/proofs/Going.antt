@@ -17,9 +17,9 @@ use Rattle.two_worlds.specs.Pumps.{StandsFor, Applies, AppliesOn, disk_at, row_o
 use Rattle.two_worlds.specs.Rooms.{Serves, DisksGo}
 use Rattle.two_worlds.proofs.Disks.Leaving.{leaves_alone}
 use Rattle.pump_wrapper.specs.Comparing.{Begins}
-use Rattle.pump_wrapper.specs.Crashes.{HasFront, KeepsFront}
+use Rattle.pump_wrapper.specs.Crashes.{HasPrefix, KeepsPrefix}
 use Rattle.pump_wrapper.specs.Sending.{LedBy, StopsBy, Follows, StopsWithin, EndsWithin, RoseBy, Goes}
-use Rattle.pump_wrapper.proofs.Fronts.{begins_then, kept_begins}
+use Rattle.pump_wrapper.proofs.Prefixes.{begins_then, kept_begins}
 use Rattle.pump_wrapper.proofs.Growing.{led_grows, breaks_grow, overfills_grow}
 use Rattle.pump_wrapper.proofs.Halting.{state_lawful}
 use Rattle.pump_wrapper.proofs.Joining.{fit_keeps, keeps_then}
@@ -102,7 +102,7 @@ module _ {D : Type 0} {g : _} (m : Meaning D) where
         let first : EndsWithin m u row p xs all (Ok tt) = λ q led at. within_from t row q ys all r (follows q at) (within_rest t row p q xs ys all r led within) in
         let rest : EndsWithin m t row f.0 ys all r = within_rest t row p f.0 xs ys all r f.1 within in
         keeps_then m row all (disk_at roles.Recv s) (disk_at roles.Recv u) (disk_at roles.Recv t) (a.keeps told p stands all first)
-        (subst (λ (x : SessionRow). KeepsFront m x all (disk_at roles.Recv u) (disk_at roles.Recv t)) a.row
+        (subst (λ (x : SessionRow). KeepsPrefix m x all (disk_at roles.Recv u) (disk_at roles.Recv t)) a.row
         (b.keeps told f.0 f.2 all (subst (λ (x : SessionRow). EndsWithin m t x f.0 ys all r) (sym a.row) rest)));
   }
 
@@ -153,8 +153,8 @@ module _ {D : Type 0} {g : _} (m : Meaning D) where
   stopped_by s t line printed (stops.Disk role why) p stands a = absurd a
 
   stopped_keeps : (s t : Pump D g) (line : Line) (printed : List Event) (stop : Stop) (p : Past) → StandsFor m s p → Applies m s t line p printed (Some stop) → (all : List Payload) → StopsWithin m t (row_of s) p line all stop
-      → KeepsFront m (row_of s) all (disk_at roles.Recv s) (disk_at roles.Recv t)
-  stopped_keeps s t line printed stops.Line p stands (refused, none, e) all within = leaves_alone m (HasFront (row_of s) all) (disk_at roles.Recv s) (disk_at roles.Recv t) (ap (λ (x : Pump D g). disk_at roles.Recv x) e)
+      → KeepsPrefix m (row_of s) all (disk_at roles.Recv s) (disk_at roles.Recv t)
+  stopped_keeps s t line printed stops.Line p stands (refused, none, e) all within = leaves_alone m (HasPrefix (row_of s) all) (disk_at roles.Recv s) (disk_at roles.Recv t) (ap (λ (x : Pump D g). disk_at roles.Recv x) e)
   stopped_keeps s t line printed (stops.Device role faults) p stands (timely, (q, breaks, fails, fit)) all within =
       let to = begins_then q.world.accepted _ all (kept_begins true q.world.storing q.world.accepted) (within q printed breaks fails) in
       fit_keeps m s t p q all (state_lawful m s.state p stands) fails.1.lawful (begins_then p.world.accepted q.world.accepted all (breaks_grow (row_of s) p line role q printed breaks) to) to fit

@@ -17,7 +17,7 @@ use Rattle.script_reader.specs.Steps.{IsCarriedBack, LineStep, Overfills}
 use Rattle.two_worlds.proofs.Low.Grows.{look_grows}
 use Rattle.pump_wrapper.specs.Comparing.{Begins}
 use Rattle.pump_wrapper.specs.Sending.{LedBy}
-use Rattle.pump_wrapper.proofs.Fronts.{begins_same, begins_then}
+use Rattle.pump_wrapper.proofs.Prefixes.{begins_same, begins_then}
 use Rattle.pump_wrapper.proofs.Moving.{Keeps, keeps_same, twice, aside, look_keeps, carry_keeps, unremoved_keeps, untaken_keeps, breaks_off_keeps}
 
 abbrev Grows : World → World → Type 0

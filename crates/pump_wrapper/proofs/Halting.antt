@@ -37,7 +37,7 @@ use Rattle.pump_wrapper.specs.Comparing.{Begins}
 use Rattle.pump_wrapper.specs.Halting.{found_of, HasNoRoom, IsBetween, Halts}
 use Rattle.pump_wrapper.specs.Sending.{empty_look, turn_lines, message_lines, greeting, pause, LedBy, Follows, EndsWithin}
 use Rattle.pump_wrapper.proofs.Applying.{LinesApply, never_line, lines_go, lines_lead, Emptying, Sent}
-use Rattle.pump_wrapper.proofs.Fronts.{begins_same, begins_more, begins_then, kept_begins, kept_none}
+use Rattle.pump_wrapper.proofs.Prefixes.{begins_same, begins_more, begins_then, kept_begins, kept_none}
 use Rattle.pump_wrapper.proofs.Leaving.{accepted_found}
 use Rattle.pump_wrapper.proofs.Moving.{Keeps, look_keeps, breaks_off_keeps}
 

@@ -45,9 +45,9 @@ same_removed : (b : Bool) (n : ℕ) → b ≡ false → (if b then n + 1 else n)
 same_removed false n e = refl
 same_removed true n e = absurd (cc e)
 
-whole_front : (xs ys : List Payload) → IsPrefixOf xs ys → length ys ≤ length xs → xs ≡ ys
-whole_front xs ys ([], e) le = sym (append-nil xs) ∙ e
-whole_front xs ys (x ∷ rest, e) le = absurd (omega (arith, le, length-append xs (x ∷ rest), ap length e))
+whole_prefix : (xs ys : List Payload) → IsPrefixOf xs ys → length ys ≤ length xs → xs ≡ ys
+whole_prefix xs ys ([], e) le = sym (append-nil xs) ∙ e
+whole_prefix xs ys (x ∷ rest, e) le = absurd (omega (arith, le, length-append xs (x ∷ rest), ap length e))
 
 drop_whole : (xs : List Payload) → drop (length xs) xs ≡ []
 drop_whole [] = refl
@@ -82,7 +82,7 @@ left_all m row p messages low high recv sound passed told (a, b, c, s) =
     let size : length w.accepted ≡ length messages = ap length passed.accepted in
     let accepted : (crashed w a b c).accepted ≡ messages = kept_none a w.storing w.accepted rest.storing ∙ passed.accepted in
     let removed : (crashed w a b c).removed ≡ length messages = same_removed (b && w.removing) w.removed (and_no b w.removing rest.removing) ∙ passed.removed in
-    let all : w.received ≡ w.accepted = whole_front w.received w.accepted delivered.prefix (let has = delivered.removed in let is = passed.removed in omega (arith, has, is, size)) in
+    let all : w.received ≡ w.accepted = whole_prefix w.received w.accepted delivered.prefix (let has = delivered.removed in let is = passed.removed in omega (arith, has, is, size)) in
     let received : (crashed w a b c).received ≡ messages = kept_not (c && w.taking) w.packet w.received (and_no c w.taking rest.taking) ∙ all ∙ passed.accepted in
     record {
       can_open = can_open row messages (let count = s.count in omega (arith, ap length accepted, count)) (subst (λ (x : List Payload). log_end x ≤ receiver_size) received s.end)

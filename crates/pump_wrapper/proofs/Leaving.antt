@@ -21,8 +21,8 @@ use Rattle.two_worlds.specs.Openings.{StandForFound, readied}
 use Rattle.world_laws.specs.Timelines.{IsAtRest}
 use Rattle.pump_wrapper.specs.Comparing.{Begins}
 use Rattle.pump_wrapper.specs.Halting.{found_of, HasNoRoom}
-use Rattle.pump_wrapper.specs.Crashes.{LeavesFront}
-use Rattle.pump_wrapper.proofs.Fronts.{begins_same, begins_then, prefix_begins, kept_begins, kept_most, kept_none}
+use Rattle.pump_wrapper.specs.Crashes.{LeavesPrefix}
+use Rattle.pump_wrapper.proofs.Prefixes.{begins_same, begins_then, prefix_begins, kept_begins, kept_most, kept_none}
 
 -- all that a world accepted is found
 pub accepted_found : (w : World) → IsPrefixOf w.received w.accepted → accepted_in (found_of w) ≡ w.accepted
@@ -125,9 +125,9 @@ no_room_now row w low high recv f end k size lawful rest h =
 
 -- ---- what a crash leaves ----
 
-pub leaves_front : {D : Type 0} (m : Meaning D) (row : SessionRow) (w : World) (low high recv : D) (all : List Payload) → LeaveWorld m row w low high recv → Begins (with_kept true w.storing w.accepted) all → m.tells_images
-    → LeavesFront m row all recv
-leaves_front m row w low high recv all leaves to told image is =
+pub leaves_prefix : {D : Type 0} (m : Meaning D) (row : SessionRow) (w : World) (low high recv : D) (all : List Payload) → LeaveWorld m row w low high recv → Begins (with_kept true w.storing w.accepted) all → m.tells_images
+    → LeavesPrefix m row all recv
+leaves_prefix m row w low high recv all leaves to told image is =
     let (a, b, c, s) = leaves.crashes told (m.reading low) (m.reading high) image (m.reads_image told low) (m.reads_image told high) is in
     let v = crashed w a b c in (
       v.received,
@@ -135,6 +135,6 @@ leaves_front m row w low high recv all leaves to told image is =
       begins_then v.received v.accepted all (prefix_begins v.received v.accepted s.lawful.delivered.prefix) (begins_then v.accepted _ all (kept_most a w.storing w.accepted) to),
     )
 
--- a front of fewer messages is one of more
-pub front_wider : {D : Type 0} (m : Meaning D) (row : SessionRow) (some all : List Payload) (recv : D) → Begins some all → LeavesFront m row some recv → LeavesFront m row all recv
-front_wider m row some all recv more front image is = let (messages, stands, begins) = front image is in (messages, stands, begins_then messages some all begins more)
+-- a prefix of fewer messages is one of more
+pub prefix_wider : {D : Type 0} (m : Meaning D) (row : SessionRow) (some all : List Payload) (recv : D) → Begins some all → LeavesPrefix m row some recv → LeavesPrefix m row all recv
+prefix_wider m row some all recv more prefix image is = let (messages, stands, begins) = prefix image is in (messages, stands, begins_then messages some all begins more)

@@ -1,7 +1,6 @@
 pub mod Applying
 pub mod Compared
 pub mod Comparisons
-pub mod Cuts
 pub mod Drained
 pub mod Emptied
 pub mod Ending
@@ -9,7 +8,7 @@ pub mod Example
 pub mod Files
 pub mod Flushed
 pub mod Following
-pub mod Fronts
+pub mod Prefixes
 pub mod Going
 pub mod Growing
 pub mod Halting
@@ -18,7 +17,6 @@ pub mod Joining
 pub mod Leaving
 pub mod Moving
 pub mod Parted
-pub mod Rooms
 pub mod Sent
 pub mod Takings
 pub mod Unopened

@@ -20,15 +20,15 @@ use Rattle.two_worlds.specs.declared.pump.state.PumpState.TheVariants.{Open, Shu
 use Rattle.two_worlds.specs.Pumps.{StandsFor, disk_at, row_of}
 use Rattle.two_worlds.specs.States.{StandsIn}
 use Rattle.pump_wrapper.specs.Comparing.{Begins}
-use Rattle.pump_wrapper.specs.Crashes.{KeepsFront}
+use Rattle.pump_wrapper.specs.Crashes.{KeepsPrefix}
+use Rattle.file_cutter.specs.declared.pieces.Cut.TheVariants.{Message, Done}
 use Rattle.pump_wrapper.specs.Cutting.{GivesNext, to_come}
 use Rattle.pump_wrapper.specs.declared.cutter.Cutter.{Cutter}
-use Rattle.pump_wrapper.specs.declared.cutter.Cut.TheVariants.{Message, Done}
 use Rattle.pump_wrapper.specs.Sending.{greeting, pause, message_lines, send_lines, LedBy, Follows, EndsWithin, Goes}
 use Rattle.pump_wrapper.specs.Halting.{Halts}
 use Rattle.pump_wrapper.specs.Wraps.{AreFirst, AreToCome, Passes, Sends, all_taken}
 use Rattle.pump_wrapper.proofs.Compared.{passed, none_passed, one_passed}
-use Rattle.pump_wrapper.proofs.Fronts.{begins_same, begins_more, begins_then}
+use Rattle.pump_wrapper.proofs.Prefixes.{begins_same, begins_more, begins_then}
 use Rattle.pump_wrapper.proofs.Going.{led_then}
 use Rattle.pump_wrapper.proofs.Halting.{halts, halts_wider, ends_within, greeting_only, message_halts}
 use Rattle.pump_wrapper.proofs.Applying.{LinesApply, lines_lead, Sent, greeting_sends, message_sends, send_more}
@@ -127,12 +127,12 @@ module _ {D : Type 0} {g : _} (m : Meaning D) (row : SessionRow) (messages : Lis
 
   -- at any moment of the greeting, whatever it comes to
   pub greeting_keeps : (u t : Pump D g) (r : Result (Unit {0}) Stop) (all : List Payload) → IsLawfulRow row → CanOpen row (all_taken messages) → StandsFor m u (first_past row (all_taken messages)) → row_of u ≡ row → m.tells
-      → Begins (messages ++ []) all → Goes m u t (greeting (row_of u) ∷ []) r → KeepsFront m row all (disk_at roles.Recv u) (disk_at roles.Recv t)
+      → Begins (messages ++ []) all → Goes m u t (greeting (row_of u) ∷ []) r → KeepsPrefix m row all (disk_at roles.Recv u) (disk_at roles.Recv t)
   greeting_keeps u t r all lawful can stands same told begins goes =
       let p = first_past row (all_taken messages) in
       let within = ends_within m t row p (greeting row ∷ []) _ messages messages (greets row messages lawful can) (greeting_only row p (length messages) 0 _ messages (first_rests row messages lawful can) (append-nil messages))
       (λ q after. begins_same q.world.accepted messages (sym after.1)) all (begins_then messages (messages ++ []) all (begins_more messages []) begins) r in
-      subst (λ (x : SessionRow). KeepsFront m x all (disk_at roles.Recv u) (disk_at roles.Recv t)) same
+      subst (λ (x : SessionRow). KeepsPrefix m x all (disk_at roles.Recv u) (disk_at roles.Recv t)) same
       (goes.keeps told p stands all (subst (λ (x : SessionRow). EndsWithin m t x p (greeting x ∷ []) all r) (sym same) within))
 
   module _ (u t : Pump D g) (start old new : Cutter) (left between rest : Option (List ℕ)) (n moment : ℕ) (s : Sending m u row messages start old left between n)
@@ -184,7 +184,7 @@ module _ {D : Type 0} {g : _} (m : Meaning D) (row : SessionRow) (messages : Lis
 
     -- at any moment of the message, whatever it comes to
     pub message_keeps : (r : Result (Unit {0}) Stop) (all : List Payload) → row_of u ≡ row → m.tells → Begins (messages ++ (s.more ++ message ∷ [])) all → Goes m u t (message_lines (row_of u) n moment message) r
-        → KeepsFront m row all (disk_at roles.Recv u) (disk_at roles.Recv t)
+        → KeepsPrefix m row all (disk_at roles.Recv u) (disk_at roles.Recv t)
     message_keeps r all same told begins goes =
         let held = messages ++ s.more in
         let most = held ++ message ∷ [] in
@@ -194,7 +194,7 @@ module _ {D : Type 0} {g : _} (m : Meaning D) (row : SessionRow) (messages : Lis
         let halt = message_halts row s.past n moment moment held message sent (omega arith) short (omega (arith, few)) (omega (arith, is_moment, l)) in
         let within = ends_within m t row s.past (message_lines row n moment message) _ held most sends halt (λ q after. begins_same q.world.accepted most (is ∙ sym after.1)) all
         (begins_then most (messages ++ (s.more ++ message ∷ [])) all (begins_same most _ (sym is)) begins) r in
-        subst (λ (x : SessionRow). KeepsFront m x all (disk_at roles.Recv u) (disk_at roles.Recv t)) same
+        subst (λ (x : SessionRow). KeepsPrefix m x all (disk_at roles.Recv u) (disk_at roles.Recv t)) same
         (goes.keeps told s.past s.stands all (subst (λ (x : SessionRow). EndsWithin m t x s.past (message_lines x n moment message) all r) (sym same) within))
 
   -- a read of the file failed, or it is too long

@@ -4,7 +4,7 @@ use Rattle.std.specs.Io.KnownBytes.{Appends}
 use Rattle.std.proofs.KnownBytes.{Appends-trans}
 use Rattle.std.proofs.lemmas.List.{take_more}
 use Rattle.disk_model.specs.Disk.{Meaning, Moves, Same}
-use Rattle.pump_link.specs.Causes.{AppendsFront}
+use Rattle.pump_link.specs.Causes.{AppendsPrefix}
 use Rattle.stable_buffer.specs.Log.{RecvStands}
 use Rattle.stable_buffer.proofs.Cells.{value-selects}
 use Rattle.high_receiver.specs.Receiving.{IsRecvReady}
@@ -38,7 +38,7 @@ length_of_piece [] = omega arith
 length_of_piece (zero ∷ piece) = omega arith
 length_of_piece (suc b ∷ later) = omega arith
 
--- a front behind what was written
-pub front_behind : (first second third : Option (List ℕ)) (bytes more : List ℕ) → Appends first second bytes → AppendsFront second third more → AppendsFront first third (bytes ++ more)
-front_behind first second third bytes more wrote (front, rest, is, then) =
-    (bytes ++ front, rest, ap (λ (p : List ℕ). bytes ++ p) is ∙ sym (append_assoc bytes front rest), Appends-trans first second third bytes front wrote then)
+-- a prefix behind what was written
+pub prefix_behind : (first second third : Option (List ℕ)) (bytes more : List ℕ) → Appends first second bytes → AppendsPrefix second third more → AppendsPrefix first third (bytes ++ more)
+prefix_behind first second third bytes more wrote (prefix, rest, is, then) =
+    (bytes ++ prefix, rest, ap (λ (p : List ℕ). bytes ++ p) is ∙ sym (append_assoc bytes prefix rest), Appends-trans first second third bytes prefix wrote then)

@@ -19,10 +19,10 @@ use Rattle.two_worlds.specs.Openings.{ComeBack, IsLeft, LeavesDisk, StandForFoun
 use Rattle.two_worlds.specs.Rooms.{is_role}
 use Rattle.two_worlds.proofs.Disks.Leaving.{leaves_alone}
 use Rattle.pump_wrapper.specs.Wraps.{end_of_opening}
-use Rattle.pump_wrapper.specs.Crashes.{HasFront, LeavesFront}
+use Rattle.pump_wrapper.specs.Crashes.{HasPrefix, LeavesPrefix}
 use Rattle.pump_wrapper.specs.WrapEnds.{Ends, EndsEarly, EndsOn, FailsFormat, HasDiskCause, RefusesDisks, Stand}
 use Rattle.pump_wrapper.specs.declared.file_sender.WrapEnd.TheVariants as ends
-use Rattle.pump_wrapper.proofs.Fronts.{begins_same}
+use Rattle.pump_wrapper.proofs.Prefixes.{begins_same}
 use Rattle.pump_wrapper.proofs.Going.{served_later, served_rose}
 use Rattle.pump_wrapper.proofs.Joining.{left_keeps}
 use Rattle.pump_wrapper.proofs.Leaving.{ready, low_some, high_some, recv_some}
@@ -74,14 +74,14 @@ module _ {D : Type 0} (m : Meaning D) (row : SessionRow) where
       inl (ap (readied row role) is ∙ ready row role (new_bytes row role 0) (subst (λ (l : List ℕ). 0 < length l) was some) ∙ sym was)
 
   -- an image of a receiver's disk that is as it was
-  image_still : (all : List Payload) (old new : D) (b : Bool) → IsLeft m row roles.Recv old new b → m.tells_images → LeavesFront m row all old → LeavesFront m row all new
-  image_still all old new b (inl moves) told front image is =
+  image_still : (all : List Payload) (old new : D) (b : Bool) → IsLeft m row roles.Recv old new b → m.tells_images → LeavesPrefix m row all old → LeavesPrefix m row all new
+  image_still all old new b (inl moves) told prefix image is =
       let (d, was, same) = moves.now told image is in
-      let (messages, stands, begins) = front d was in
+      let (messages, stands, begins) = prefix d was in
       (messages, subst (RecvStands row messages) (sym same) stands, begins)
-  image_still all old new b (inr made) told front image is =
+  image_still all old new b (inr made) told prefix image is =
       let none = (made (m.images_tell told)).0 in
-      let (messages, stands, begins) = front (m.reading old) (m.reads_image told old) in
+      let (messages, stands, begins) = prefix (m.reading old) (m.reads_image told old) in
       let some = recv_some row messages (m.reading old) stands in
       absurd (omega (arith, some, ap length none))
 
@@ -190,8 +190,8 @@ module _ {D : Type 0} (m : Meaning D) (row : SessionRow) where
           refused = tt;
           opened = λ told. inl tt;
           ends = λ told left f stand. inr (as_before left f a b d stand);
-          images = λ told f stand all begins before. subst (LeavesFront m row all) (sym d) (before tt);
-          keeps = λ told f stand all begins some front. leaves_alone m (HasFront row all) old.recv recv d;
+          images = λ told f stand all begins before. subst (LeavesPrefix m row all) (sym d) (before tt);
+          keeps = λ told f stand all begins some prefix. leaves_alone m (HasPrefix row all) old.recv recv d;
         }
     unopened (Some why) c stops = record {
       early = tt;
@@ -200,7 +200,7 @@ module _ {D : Type 0} (m : Meaning D) (row : SessionRow) where
       opened = λ told. inl tt;
       ends = λ told left f stand. stands why left f c (stops told f stand) told stand;
       images = λ told f stand all begins before. image_still all old.recv recv _ c.recv_disk.left told (before tt);
-      keeps = λ told f stand all begins some front. left_keeps m row all old.recv recv _ c.recv_disk.left (m.images_tell told) some (λ told. front);
+      keeps = λ told f stand all begins some prefix. left_keeps m row all old.recv recv _ c.recv_disk.left (m.images_tell told) some (λ told. prefix);
     }
 
 -- no count fell in an opening

@@ -4,29 +4,11 @@ use Rattle.std.specs.List.{AllByRecursion}
 use Rattle.std.proofs.lemmas.List.{take-append-drop, append-nil}
 use Rattle.std.proofs.lemmas.List.Folds.{flat_map-map}
 use Rattle.std.proofs.lemmas.Grind.{flat_map-append}
-use Rattle.pump_wrapper.specs.Wrapped.{first_pieces, pieces, piece_message, length_message, piece_of, unwrapped, wrapped}
+use Rattle.file_messages.specs.Messages.{piece_message}
+use Rattle.file_messages.specs.Cuts.{first_pieces, pieces}
+use Rattle.file_cutter.proofs.PieceLists.{pieces_none, pieces_some}
+use Rattle.pump_wrapper.specs.Wrapped.{length_message, piece_of, unwrapped, wrapped}
 use Rattle.pump_wrapper.specs.Cutting.{wrapped_from}
-
--- as many steps as bytes are enough
-enough : (k j n : ℕ) (file : List ℕ) → 0 < n → length file ≤ k → length file ≤ j → first_pieces k n file ≡ first_pieces j n file
-enough zero zero n file some le le' = refl
-enough zero (suc j) n [] some le le' = refl
-enough zero (suc j) n (b ∷ bs) some le le' = absurd (omega (arith, le))
-enough (suc k) zero n [] some le le' = refl
-enough (suc k) zero n (b ∷ bs) some le le' = absurd (omega (arith, le'))
-enough (suc k) (suc j) n [] some le le' = refl
-enough (suc k) (suc j) n (b ∷ bs) some le le' =
-    ap (λ (ps : List (List ℕ)). take n (b ∷ bs) ∷ ps) (enough k j n (drop n (b ∷ bs)) some (omega (arith, le, some, length-drop n (b ∷ bs))) (omega (arith, le', some, length-drop n (b ∷ bs))))
-
-pub pieces_none : (n : ℕ) → pieces n [] ≡ []
-unfolding pieces
-pieces_none n = refl
-
-pub pieces_some : (n : ℕ) (file : List ℕ) → 0 < n → 0 < length file → pieces n file ≡ take n file ∷ pieces n (drop n file)
-unfolding pieces
-pieces_some n [] some any = absurd (omega (arith, any))
-pieces_some n (b ∷ bs) some any =
-    ap (λ (ps : List (List ℕ)). take n (b ∷ bs) ∷ ps) (enough (length bs) (length (drop n (b ∷ bs))) n (drop n (b ∷ bs)) some (omega (arith, some, length-drop n (b ∷ bs))) (omega arith))
 
 -- behind the last piece stands the length
 pub from_end : (n before : ℕ) → wrapped_from n before [] ≡ length_message before ∷ []
@@ -77,8 +59,8 @@ pub files_are_one : (message : ℕ) (first second : List ℕ) → 2 ≤ message 
 files_are_one message first second two same = sym (unwrapped_file message first two) ∙ ap unwrapped same ∙ unwrapped_file message second two
 
 -- the first messages of a file have its first bytes
-pub front_of_file : (message : ℕ) (file : List ℕ) (messages rest : List (List ℕ)) → 2 ≤ message → wrapped message file ≡ messages ++ rest → file ≡ unwrapped messages ++ unwrapped rest
-front_of_file message file messages rest two is = sym (unwrapped_file message file two) ∙ ap unwrapped is ∙ flat_map-append piece_of messages rest
+pub prefix_of_file : (message : ℕ) (file : List ℕ) (messages rest : List (List ℕ)) → 2 ≤ message → wrapped message file ≡ messages ++ rest → file ≡ unwrapped messages ++ unwrapped rest
+prefix_of_file message file messages rest two is = sym (unwrapped_file message file two) ∙ ap unwrapped is ∙ flat_map-append piece_of messages rest
 
 pieces_fit : (k n : ℕ) (file : List ℕ) → AllByRecursion (λ m. length m ≤ suc n) (map piece_message (first_pieces k n file))
 pieces_fit zero n file = tt

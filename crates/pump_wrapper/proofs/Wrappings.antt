@@ -16,16 +16,16 @@ use Rattle.script_reader.specs.Highs.{receiver_size}
 use Rattle.stable_buffer.specs.Log.{RecvStands}
 use Rattle.two_worlds.proofs.Opening.Opened.{received_end}
 use Rattle.pump_wrapper.specs.Comparing.{Begins, Compares, FirstDiffer}
-use Rattle.pump_wrapper.specs.Cutting.{Gave, to_come}
+use Rattle.pump_wrapper.specs.Cutting.{Gave, cut_bytes, to_come}
 use Rattle.pump_wrapper.specs.Wrapped.{wrapped}
 use Rattle.pump_wrapper.specs.Wraps.{HasAll, all_taken}
-use Rattle.pump_wrapper.specs.Crashes.{LeavesFront}
+use Rattle.pump_wrapper.specs.Crashes.{LeavesPrefix}
 use Rattle.pump_wrapper.specs.WrapEnds.{ComparesNot, Continues, DifferAt, EndsAt, EndsOn, TakesSoFar}
 use Rattle.pump_wrapper.specs.declared.cutter.Cutter.{Cutter}
 use Rattle.pump_wrapper.specs.declared.file_sender.WrapEnd.{WrapEnd}
 use Rattle.pump_wrapper.specs.declared.file_sender.WrapEnd.TheVariants as ends
 use Rattle.pump_wrapper.proofs.Ending.{emptied_ends}
-use Rattle.pump_wrapper.proofs.Fronts.{begins_same}
+use Rattle.pump_wrapper.proofs.Prefixes.{begins_same}
 
 -- ---- an answer that is known ----
 
@@ -50,10 +50,10 @@ module _ {D : Type 0} (m : Meaning D) (row : SessionRow) (low high old recv : D)
     hold = record { low_is = has.hold.low_is; high_is = has.hold.high_is; recv_is = subst (RecvStands row messages) (sym (same.reads told)) has.hold.recv_is };
   }
 
-  pub front_still : (all : List Payload) → m.tells_images → LeavesFront m row all old → LeavesFront m row all recv
-  front_still all told front image is =
+  pub prefix_still : (all : List Payload) → m.tells_images → LeavesPrefix m row all old → LeavesPrefix m row all recv
+  prefix_still all told prefix image is =
       let (d, before, step) = same.now told image is in
-      let (messages, stands, begins) = front d before in
+      let (messages, stands, begins) = prefix d before in
       (messages, subst (RecvStands row messages) (sym step) stands, begins)
 
   -- ---- a comparison that failed ----
@@ -96,7 +96,7 @@ continues row messages start new (Some l) None taken c first compares more h = a
 continues row messages start new (Some l) (Some r) taken c first compares more (z, e) =
     (z, sym (first l) ∙ compares ∙ ap (λ (ms : List Payload). messages ++ ms) e ∙ sym (append_assoc messages more z))
 
-pub gave_then : (start new : Cutter) (left rest last : Option (List ℕ)) (is_long : Bool) → start.bytes ≡ 0 → TakesSoFar start new left rest (Ok tt) → Gave new.bytes rest last is_long → Gave 0 left last is_long
+pub gave_then : (start new : Cutter) (left rest last : Option (List ℕ)) (is_long : Bool) → cut_bytes start ≡ 0 → TakesSoFar start new left rest (Ok tt) → Gave (cut_bytes new) rest last is_long → Gave 0 left last is_long
 gave_then start new left rest last is_long none (one, c, long, short, counted) (other, d, all, few) =
     let size : length (one ++ other) ≡ length one + length other = length-append one other in
     let count = counted refl in (

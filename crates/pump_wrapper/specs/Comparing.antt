@@ -2,7 +2,7 @@
 use Rattle.std.specs.Prelude.{◌≡◌, ◌≢◌, ℕ, ◌+◌, ◌^◌, ◌<◌, List, ◌++◌, length, take, Option, None, Some, Result, Ok, Err}
 use Rattle.std.specs.Io.KnownBytes.{Consumes}
 use Rattle.pump_frame.specs.Counts.{Rose}
-use Rattle.pump_wrapper.specs.Cutting.{to_come, bytes_in_all}
+use Rattle.pump_wrapper.specs.Cutting.{to_come, bytes_in_all, cut_bytes}
 use Rattle.pump_wrapper.specs.declared.cutter.Cutter.{Cutter}
 use Rattle.pump_wrapper.specs.declared.compare.CompareFault.{CompareFault}
 use Rattle.pump_wrapper.specs.declared.compare.CompareFault.TheVariants.{Device, Differs, Read, TooLong}
@@ -11,25 +11,30 @@ use Rattle.pump_wrapper.specs.declared.compare.CompareFault.TheVariants.{Device,
 abbrev pub Begins : List (List ℕ) → List (List ℕ) → Type 0
 Begins messages all = (rest : List (List ℕ)) × (all ≡ messages ++ rest)
 
--- Of messages that were to come: the receiver's are the first, and those behind them are to come still; or its first n are, and not its first n + 1.
+-- Of messages that were to come: the receiver's are the first, and those behind them are to come still; or its first
+-- n are, and not its first n + 1.
 abbrev pub ComparesIn : List (List ℕ) → List (List ℕ) → List (List ℕ) → Result (Unit {0}) CompareFault → Type 0
 ComparesIn messages before after (Ok done) = before ≡ messages ++ after
-ComparesIn messages before after (Err (Differs n)) = (n < length messages) × Begins (take n messages) before × (Begins (take (n + 1) messages) before → ⊥)
+ComparesIn messages before after (Err (Differs n)) = (n < length messages) × Begins (take n messages) before
+    × (Begins (take (n + 1) messages) before → ⊥)
 ComparesIn messages before after (Err (Device faults)) = Unit {0}
 ComparesIn messages before after (Err Read) = Unit {0}
 ComparesIn messages before after (Err TooLong) = Unit {0}
 
 -- .. of a cutter, over a source with these bytes left before and after, where they are told
-abbrev pub Compares : List (List ℕ) → Cutter → Cutter → Option (List ℕ) → Option (List ℕ) → Result (Unit {0}) CompareFault → Type 0
+abbrev pub Compares : List (List ℕ) → Cutter → Cutter → Option (List ℕ) → Option (List ℕ)
+    → Result (Unit {0}) CompareFault → Type 0
 Compares messages old new None rest result = Unit {0}
 Compares messages old new (Some left) None result = Unit {0}
-Compares messages old new (Some left) (Some rest) result = ComparesIn messages (to_come old left) (to_come new rest) result
+Compares messages old new (Some left) (Some rest) result = ComparesIn messages (to_come old left) (to_come new rest)
+    result
 
 -- the bytes that the source gave: it is too long exactly at 2^48 in all
 abbrev pub TakesInAll : Cutter → Cutter → Option (List ℕ) → Option (List ℕ) → Result (Unit {0}) CompareFault → Type 0
 TakesInAll old new left rest result =
-    (bytes : List ℕ) × Consumes left rest bytes × (result ≡ Err TooLong → old.bytes + length bytes ≡ 2 ^ 48)
-    × (result ≢ Err TooLong → old.bytes + length bytes < 2 ^ 48) × (result ≡ Ok tt → new.bytes ≡ old.bytes + length bytes)
+    (bytes : List ℕ) × Consumes left rest bytes × (result ≡ Err TooLong → cut_bytes old + length bytes ≡ 2 ^ 48)
+    × (result ≢ Err TooLong → cut_bytes old + length bytes < 2 ^ 48)
+    × (result ≡ Ok tt → cut_bytes new ≡ cut_bytes old + length bytes)
 
 abbrev pub IsDeviceStop : Result (Unit {0}) CompareFault → Type 0
 IsDeviceStop (Ok done) = ⊥
@@ -52,8 +57,10 @@ SameBytes old new None rest = Unit {0}
 SameBytes old new (Some left) None = Unit {0}
 SameBytes old new (Some left) (Some rest) = bytes_in_all new rest ≡ bytes_in_all old left
 
--- the first n messages are the first that a cutter had to give, and the first n + 1 are not, where its source tells its bytes
+-- the first n messages are the first that a cutter had to give, and the first n + 1 are not, where its source tells
+-- its bytes
 abbrev pub FirstDiffer : List (List ℕ) → Cutter → Option (List ℕ) → ℕ → Type 0
 FirstDiffer messages cutter None n = Unit {0}
 FirstDiffer messages cutter (Some left) n =
-    (n < length messages) × Begins (take n messages) (to_come cutter left) × (Begins (take (n + 1) messages) (to_come cutter left) → ⊥)
+    (n < length messages) × Begins (take n messages) (to_come cutter left)
+    × (Begins (take (n + 1) messages) (to_come cutter left) → ⊥)

@@ -8,17 +8,17 @@ use Rattle.two_worlds.specs.Doing.{LeavesOn}
 use Rattle.pump_wrapper.specs.Comparing.{Begins}
 
 -- an image of a receiver's disk has a list of messages that these begin with
-abbrev pub HasFront : SessionRow → List Payload → List ℕ → Type 0
-HasFront row all image = (messages : List Payload) × RecvStands row messages image × Begins messages all
+abbrev pub HasPrefix : SessionRow → List Payload → List ℕ → Type 0
+HasPrefix row all image = (messages : List Payload) × RecvStands row messages image × Begins messages all
 
 -- whatever a crash leaves of the disk has such a list
-abbrev pub LeavesFront : {D : Type 0} → Meaning D → SessionRow → List Payload → D → Type 0
-LeavesFront m row all disk = (image : List ℕ) → m.images disk image → HasFront row all image
+abbrev pub LeavesPrefix : {D : Type 0} → Meaning D → SessionRow → List Payload → D → Type 0
+LeavesPrefix m row all disk = (image : List ℕ) → m.images disk image → HasPrefix row all image
 
 -- whatever a crash at any moment since the disk was `old` left of it has such a list
-abbrev pub LeavesFrontSince : {D : Type 0} → Meaning D → SessionRow → List Payload → D → D → Type 0
-LeavesFrontSince m row all old new = (image : List ℕ) → m.since new (m.moment old) image → HasFront row all image
+abbrev pub LeavesPrefixSince : {D : Type 0} → Meaning D → SessionRow → List Payload → D → D → Type 0
+LeavesPrefixSince m row all old new = (image : List ℕ) → m.since new (m.moment old) image → HasPrefix row all image
 
 -- whatever a crash at any moment leaves of the disk has such a list, or could be left before it was `old`
-abbrev pub KeepsFront : {D : Type 0} → Meaning D → SessionRow → List Payload → D → D → Type 0
-KeepsFront m row all old new = LeavesOn m old new (HasFront row all)
+abbrev pub KeepsPrefix : {D : Type 0} → Meaning D → SessionRow → List Payload → D → D → Type 0
+KeepsPrefix m row all old new = LeavesOn m old new (HasPrefix row all)

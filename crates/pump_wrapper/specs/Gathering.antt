@@ -23,8 +23,10 @@ Follows gathering later = FollowsOn gathering.before gathering.size gathering.by
 
 -- just what may follow makes a file of the messages so far
 pub record HasTaken (message : ℕ) (messages : List (List ℕ)) (gathering : Gathering) : Type 0 where
-  pub only : (later : List (List ℕ)) (file : List ℕ) → wrapped message file ≡ messages ++ later → Follows gathering later
-  pub each : (later : List (List ℕ)) → Follows gathering later → (file : List ℕ) × (wrapped message file ≡ messages ++ later)
+  pub only : (later : List (List ℕ)) (file : List ℕ) → wrapped message file ≡ messages ++ later
+      → Follows gathering later
+  pub each : (later : List (List ℕ)) → Follows gathering later → (file : List ℕ)
+      × (wrapped message file ≡ messages ++ later)
 
 -- a message may come next, and then what may follow it
 pub record Steps (old new : Gathering) (message : List ℕ) : Type 0 where

@@ -2,29 +2,29 @@
 use Rattle.std.specs.Prelude.{◌≡◌, ℕ, ◌+◌, ◌<◌, ◌≤◌, ◌↔◌, IsTrue, List, length, take, Option, Result, Ok, Err}
 use Rattle.std.specs.Io.KnownBytes.{Appends}
 use Rattle.pump_frame.specs.Counts.{Rose}
-use Rattle.pump_link.specs.Causes.{AppendsFront}
+use Rattle.pump_link.specs.Causes.{AppendsPrefix}
 use Rattle.pump_wrapper.specs.Wrapped.{unwrapped, IsFile, BeginsFile}
 use Rattle.pump_wrapper.specs.declared.gathered.Gathered.{Gathered}
 use Rattle.pump_wrapper.specs.declared.gathered.GatherFault.{GatherFault}
 use Rattle.pump_wrapper.specs.declared.gathered.GatherFault.TheVariants.{Device, NotWrapped, Write}
 
--- What was put of these messages, by the answer: the bytes of the pieces of all of them; or of those before the least with
--- which they begin no file; or of the first n, or a front of them.
-abbrev pub GathersBy : (Puts PutsFront : List ℕ → Type 0) → ℕ → List (List ℕ) → Result Gathered GatherFault → Type 0
-GathersBy Puts PutsFront message messages (Ok gathered) =
+-- What was put of these messages, by the answer: the bytes of the pieces of all of them; or of those before the least
+-- with which they begin no file; or of the first n, or a prefix of them.
+abbrev pub GathersBy : (Puts PutsPrefix : List ℕ → Type 0) → ℕ → List (List ℕ) → Result Gathered GatherFault → Type 0
+GathersBy Puts PutsPrefix message messages (Ok gathered) =
     BeginsFile message messages × Puts (unwrapped messages)
     × (gathered.bytes ≡ length (unwrapped messages)) × (IsTrue gathered.whole ↔ IsFile message messages)
-GathersBy Puts PutsFront message messages (Err (NotWrapped n)) =
+GathersBy Puts PutsPrefix message messages (Err (NotWrapped n)) =
     (n < length messages) × BeginsFile message (take n messages) × (BeginsFile message (take (n + 1) messages) → ⊥)
     × Puts (unwrapped (take n messages))
-GathersBy Puts PutsFront message messages (Err (Device faults)) =
+GathersBy Puts PutsPrefix message messages (Err (Device faults)) =
     (n : ℕ) × (n < length messages) × BeginsFile message (take n messages) × Puts (unwrapped (take n messages))
-GathersBy Puts PutsFront message messages (Err Write) =
-    (n : ℕ) × (n ≤ length messages) × BeginsFile message (take n messages) × PutsFront (unwrapped (take n messages))
+GathersBy Puts PutsPrefix message messages (Err Write) =
+    (n : ℕ) × (n ≤ length messages) × BeginsFile message (take n messages) × PutsPrefix (unwrapped (take n messages))
 
 -- .. where what is put is written
 abbrev pub Gathers : ℕ → List (List ℕ) → Option (List ℕ) → Option (List ℕ) → Result Gathered GatherFault → Type 0
-Gathers message messages old new result = GathersBy (Appends old new) (AppendsFront old new) message messages result
+Gathers message messages old new result = GathersBy (Appends old new) (AppendsPrefix old new) message messages result
 
 -- the answer is that the disk failed
 abbrev pub IsDeviceFault : Result Gathered GatherFault → Type 0

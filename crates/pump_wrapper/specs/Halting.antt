@@ -39,8 +39,9 @@ HaltsBy m t q (stops.Full end length size) = StandsFor m t q × HasNoRoom (found
 HaltsBy m t q (stops.Disk role why) = ⊥
 
 -- the pump was stopped so, and has accepted messages between these
-pub record Halts {D : Type 0} {g : _} (m : Meaning D) (t : Pump D g) (first most : List Payload) (stop : Stop) : Type 0 where
-  pub past : Past
-  pub stands : StandsOrFails m t past
-  pub between : IsBetween first most past.world
-  pub by : HaltsBy m t past stop
+pub record Halts {D : Type 0} {g : _} (m : Meaning D) (t : Pump D g) (first most : List Payload) (stop : Stop) : Type 0
+  where
+    pub past : Past
+    pub stands : StandsOrFails m t past
+    pub between : IsBetween first most past.world
+    pub by : HaltsBy m t past stop

@@ -1,5 +1,6 @@
 -- How the sending of a file ends, and what the session's disks stand for then.
-use Rattle.std.specs.Prelude.{◌≡◌, ◌≢◌, ◌⊎◌, ℕ, ◌+◌, ◌^◌, ◌<◌, ◌≤◌, true, false, List, [], ◌++◌, length, take, Option, None, Some, Result, Ok}
+use Rattle.std.specs.Prelude.{◌≡◌, ◌≢◌, ◌⊎◌, ℕ, ◌+◌, ◌^◌, ◌<◌, ◌≤◌, true, false, List, [], ◌++◌, length, take, Option}
+use Rattle.std.specs.Prelude.{None, Some, Result, Ok}
 use Rattle.std.specs.Io.KnownBytes.{Consumes}
 use Rattle.disk_model.specs.Disk.{Meaning}
 use Rattle.disk_model.specs.declared.name.Role.{Role}
@@ -20,7 +21,8 @@ use Rattle.two_worlds.specs.Openings.{DisksStandFor, IsLeft, IsRefused, readied}
 use Rattle.two_worlds.specs.declared.applied.Stop.{Stop}
 use Rattle.two_worlds.specs.declared.applied.Stop.TheVariants as stops
 use Rattle.pump_wrapper.specs.Comparing.{Begins, FirstDiffer}
-use Rattle.pump_wrapper.specs.Crashes.{KeepsFront, LeavesFront}
+use Rattle.pump_wrapper.specs.Crashes.{KeepsPrefix, LeavesPrefix}
+use Rattle.pump_wrapper.specs.Cutting.{cut_bytes}
 use Rattle.pump_wrapper.specs.Halting.{HasNoRoom}
 use Rattle.pump_wrapper.specs.Wrapped.{wrapped}
 use Rattle.pump_wrapper.specs.Wraps.{AreFirst, HasAll, is_long_in}
@@ -32,7 +34,8 @@ use Rattle.pump_wrapper.specs.declared.file_sender.WrapEnd.TheVariants as ends
 
 -- the count of failed calls of this role's disk rose, and is this now
 abbrev pub HasFailed : {D : Type 0} → Meaning D → Role → ℕ → Trio D → Trio D → Type 0
-HasFailed m role faults old new = (faults ≡ m.count (disk_of new role)) × Rose (m.count (disk_of old role)) (m.count (disk_of new role))
+HasFailed m role faults old new = (faults ≡ m.count (disk_of new role))
+    × Rose (m.count (disk_of old role)) (m.count (disk_of new role))
 
 -- a disk is the cause only where its count rose
 abbrev pub HasDiskCause : {D : Type 0} → Meaning D → Trio D → Trio D → WrapEnd → Type 0
@@ -78,22 +81,26 @@ EndsAt row left accepted now (ends.Done bytes messages) = IsEmptied now
 EndsAt row left accepted now ends.Memory = accepted_in now ≡ accepted
 EndsAt row left accepted now ends.Read = IsEmptied now
 EndsAt row left accepted now ends.TooLong = IsEmptied now
-EndsAt row left accepted now (ends.Differs number) = IsEmptied now × (accepted_in now ≡ accepted) × DifferAt row left accepted number
+EndsAt row left accepted now (ends.Differs number) = IsEmptied now × (accepted_in now ≡ accepted)
+    × DifferAt row left accepted number
 EndsAt row left accepted now (ends.Refused role why) = (is_device why ≡ true) × (accepted_in now ≡ accepted)
 EndsAt row left accepted now (ends.Stopped stop) = IsStopped now stop
 
 -- The disks stand for a session again. No message is lost or put before another, and where one was
 -- added all are the first messages of the file.
-pub record EndsOn {D : Type 0} (m : Meaning D) (row : SessionRow) (left : Option (List ℕ)) (accepted : List Payload) (end : WrapEnd) (disks : Trio D) : Type 0 where
+pub record EndsOn {D : Type 0} (m : Meaning D) (row : SessionRow) (left : Option (List ℕ)) (accepted : List Payload)
+    (end : WrapEnd) (disks : Trio D) : Type 0 where
   pub now : Found
   pub stand : DisksStandFor m row disks.low disks.high disks.recv now
   pub grows : Begins accepted (accepted_in now)
   pub sent : (accepted_in now ≡ accepted) ⊎ BeginFile row left (accepted_in now)
   pub ends : EndsAt row left accepted now end
 
--- The formatting of this role's disk, which was empty, failed, so that it may be half formatted. Nothing of the file was read, of
--- which these bytes were left before and after; and each of the other two disks is as it was, or was empty and is new.
-pub record FailsFormat {D : Type 0} (m : Meaning D) (row : SessionRow) (left rest : Option (List ℕ)) (old : Trio D) (end : WrapEnd) (new : Trio D) : Type 0 where
+-- The formatting of this role's disk, which was empty, failed, so that it may be half formatted. Nothing of the file
+-- was read, of which these bytes were left before and after; and each of the other two disks is as it was, or was
+-- empty and is new.
+pub record FailsFormat {D : Type 0} (m : Meaning D) (row : SessionRow) (left rest : Option (List ℕ)) (old : Trio D)
+    (end : WrapEnd) (new : Trio D) : Type 0 where
   pub role : Role
   pub faults : ℕ
   pub end_is : end ≡ ends.Refused role (whys.Device faults)
@@ -102,7 +109,8 @@ pub record FailsFormat {D : Type 0} (m : Meaning D) (row : SessionRow) (left res
   pub others : (other : Role) → (other ≡ role → ⊥) → IsLeft m row other (disk_of old other) (disk_of new other) false
 
 -- .. or the three stand for a session again
-abbrev pub Ends : {D : Type 0} → Meaning D → SessionRow → Option (List ℕ) → Option (List ℕ) → List Payload → Trio D → WrapEnd → Trio D → Type 0
+abbrev pub Ends : {D : Type 0} → Meaning D → SessionRow → Option (List ℕ) → Option (List ℕ) → List Payload → Trio D
+    → WrapEnd → Trio D → Type 0
 Ends m row left rest accepted old end new = FailsFormat m row left rest old end new ⊎ EndsOn m row left accepted end new
 
 -- the three disks stand for this
@@ -112,8 +120,10 @@ Stand m row disks f = DisksStandFor m row disks.low disks.high disks.recv f
 -- ---- a session that is refused ----
 
 -- the disks are refused for the first cause, and none was changed but that an empty one was formatted
-pub record AreRefused {D : Type 0} (m : Meaning D) (row : SessionRow) (role : Role) (why : Why) (old new : Trio D) : Type 0 where
-  pub first : IsRefused row (readied row roles.Low (m.reading old.low)) (readied row roles.High (m.reading old.high)) (readied row roles.Recv (m.reading old.recv)) role why
+pub record AreRefused {D : Type 0} (m : Meaning D) (row : SessionRow) (role : Role) (why : Why) (old new : Trio D) :
+    Type 0 where
+  pub first : IsRefused row (readied row roles.Low (m.reading old.low)) (readied row roles.High (m.reading old.high))
+      (readied row roles.Recv (m.reading old.recv)) role why
   pub left : (role : Role) → IsLeft m row role (disk_of old role) (disk_of new role) false
 
 abbrev pub RefusesDisks : {D : Type 0} → Meaning D → SessionRow → Trio D → WrapEnd → Trio D → Type 0
@@ -130,12 +140,13 @@ IsNotOpened end = ⊥
 
 -- whatever a crash leaves of the receiver's disk after a sending has messages that these begin with, where the accepted
 -- messages are the first ones of these; where the pump was not opened, if it was so before
-abbrev pub LeavesFrontBy : {D : Type 0} → Meaning D → SessionRow → Trio D → WrapEnd → Trio D → List Payload → Type 0
-LeavesFrontBy m row old end new all = (IsNotOpened end → LeavesFront m row all old.recv) → LeavesFront m row all new.recv
+abbrev pub LeavesPrefixBy : {D : Type 0} → Meaning D → SessionRow → Trio D → WrapEnd → Trio D → List Payload → Type 0
+LeavesPrefixBy m row old end new all = (IsNotOpened end → LeavesPrefix m row all old.recv)
+    → LeavesPrefix m row all new.recv
 
 -- .. at any moment of it, too, where the disk was not empty before, and it was so then
-abbrev pub KeepsFrontOf : {D : Type 0} → Meaning D → SessionRow → List Payload → D → D → Type 0
-KeepsFrontOf m row all old new = m.reading old ≢ [] → LeavesFront m row all old → KeepsFront m row all old new
+abbrev pub KeepsPrefixOf : {D : Type 0} → Meaning D → SessionRow → List Payload → D → D → Type 0
+KeepsPrefixOf m row all old new = m.reading old ≢ [] → LeavesPrefix m row all old → KeepsPrefix m row all old new
 
 -- ---- the steps of a sending ----
 
@@ -146,26 +157,32 @@ IsEarly (ends.Refused role why) = Unit {0}
 IsEarly (ends.Stopped stop) = Unit {0}
 IsEarly end = ⊥
 
-pub record EndsEarly {D : Type 0} (m : Meaning D) (row : SessionRow) (old : Trio D) (end : WrapEnd) (new : Trio D) : Type 0 where
+pub record EndsEarly {D : Type 0} (m : Meaning D) (row : SessionRow) (old : Trio D) (end : WrapEnd) (new : Trio D) :
+    Type 0 where
   pub early : IsEarly end
   pub cause : HasDiskCause m old new end
   pub refused : RefusesDisks m row old end new
   pub opened : m.tells → IsNotOpened end ⊎ ((f : Found) × Stand m row old f)
-  pub ends : m.tells → (left : Option (List ℕ)) (f : Found) → Stand m row old f → Ends m row left left (accepted_in f) old end new
-  pub images : m.tells_images → (f : Found) → Stand m row old f → (all : List Payload) → Begins (accepted_in f) all → LeavesFrontBy m row old end new all
-  pub keeps : m.tells_images → (f : Found) → Stand m row old f → (all : List Payload) → Begins (accepted_in f) all → KeepsFrontOf m row all old.recv new.recv
+  pub ends : m.tells → (left : Option (List ℕ)) (f : Found) → Stand m row old f
+      → Ends m row left left (accepted_in f) old end new
+  pub images : m.tells_images → (f : Found) → Stand m row old f → (all : List Payload) → Begins (accepted_in f) all
+      → LeavesPrefixBy m row old end new all
+  pub keeps : m.tells_images → (f : Found) → Stand m row old f → (all : List Payload) → Begins (accepted_in f) all
+      → KeepsPrefixOf m row all old.recv new.recv
 
 -- a pump was opened over these disks, and they are emptied
 pub record Empties {D : Type 0} (m : Meaning D) (row : SessionRow) (old new : Trio D) : Type 0 where
   pub counts : CountOn m old new
   pub opened : m.tells → (f : Found) × Stand m row old f
   pub emptied : m.tells → (f : Found) → Stand m row old f → HasAll m row (accepted_in f) new
-  pub images : m.tells_images → (f : Found) → Stand m row old f → LeavesFront m row (accepted_in f) new.recv
-  pub keeps : m.tells_images → (f : Found) → Stand m row old f → (all : List Payload) → Begins (accepted_in f) all → KeepsFrontOf m row all old.recv new.recv
+  pub images : m.tells_images → (f : Found) → Stand m row old f → LeavesPrefix m row (accepted_in f) new.recv
+  pub keeps : m.tells_images → (f : Found) → Stand m row old f → (all : List Payload) → Begins (accepted_in f) all
+      → KeepsPrefixOf m row all old.recv new.recv
 
 -- the messages of a cutter that come behind these are further ones of the file
 abbrev pub Continues : SessionRow → Option (List ℕ) → List Payload → Cutter → Option (List ℕ) → Type 0
-Continues row whole messages cutter left = (more : List Payload) → AreFirst cutter left more → BeginFile row whole (messages ++ more)
+Continues row whole messages cutter left = (more : List Payload) → AreFirst cutter left more
+    → BeginFile row whole (messages ++ more)
 
 -- why a comparison of the receiver's messages failed, over its disk before and after
 abbrev pub ComparesNot : {D : Type 0} → Meaning D → SessionRow → D → D → Cutter → Option (List ℕ) → WrapEnd → Type 0
@@ -181,5 +198,6 @@ ComparesNot m row old new cutter left end = ⊥
 -- the bytes that the source gave for a comparison: it is too long exactly at 2^48 in all
 abbrev pub TakesSoFar : Cutter → Cutter → Option (List ℕ) → Option (List ℕ) → Result (Unit {0}) WrapEnd → Type 0
 TakesSoFar old new left rest result =
-    (bytes : List ℕ) × Consumes left rest bytes × (is_long_in result ≡ true → old.bytes + length bytes ≡ 2 ^ 48)
-    × (is_long_in result ≡ false → old.bytes + length bytes < 2 ^ 48) × (result ≡ Ok tt → new.bytes ≡ old.bytes + length bytes)
+    (bytes : List ℕ) × Consumes left rest bytes × (is_long_in result ≡ true → cut_bytes old + length bytes ≡ 2 ^ 48)
+    × (is_long_in result ≡ false → cut_bytes old + length bytes < 2 ^ 48)
+    × (result ≡ Ok tt → cut_bytes new ≡ cut_bytes old + length bytes)

@@ -1,20 +1,8 @@
 -- A file as a list of messages.
-use Rattle.std.specs.Prelude.{◌≡◌, ℕ, zero, suc, ◌-◌, List, [], ◌∷◌, ◌++◌, length, take, drop, map, flat_map}
+use Rattle.std.specs.Prelude.{◌≡◌, ℕ, zero, ◌-◌, List, [], ◌∷◌, ◌++◌, length, map, flat_map}
 use Rattle.byteorder.specs.Endian.{big_bytes}
-
--- the first k pieces of a file, of n bytes each: its last one may be shorter, and none is empty
-abbrev pub first_pieces : ℕ → ℕ → List ℕ → List (List ℕ)
-first_pieces zero n file = []
-first_pieces (suc k) n [] = []
-first_pieces (suc k) n (b ∷ bs) = take n (b ∷ bs) ∷ first_pieces k n (drop n (b ∷ bs))
-
--- all its pieces, which are no more than its bytes
-unfoldable pub pieces : ℕ → List ℕ → List (List ℕ)
-pieces n file = first_pieces (length file) n file
-
--- a byte 0, and then the piece
-abbrev pub piece_message : List ℕ → List ℕ
-piece_message piece = 0 ∷ piece
+use Rattle.file_messages.specs.Messages.{piece_message}
+use Rattle.file_messages.specs.Cuts.{pieces}
 
 -- a byte 1, and then the number of a file's bytes, in eight bytes
 unfoldable pub length_message : ℕ → List ℕ

@@ -1,5 +1,6 @@
 -- What the sending of a file over a session's pump comes to.
-use Rattle.std.specs.Prelude.{◌≡◌, ℕ, ◌-◌, Bool, true, false, List, [], ◌∷◌, ◌++◌, length, Option, None, Some, Result, Ok, Err}
+use Rattle.std.specs.Prelude.{◌≡◌, ℕ, ◌-◌, Bool, true, false, List, [], ◌∷◌, ◌++◌, length, Option, None, Some, Result}
+use Rattle.std.specs.Prelude.{Ok, Err}
 use Rattle.disk_model.specs.Disk.{Meaning}
 use Rattle.disk_model.specs.declared.name.Role.{Role}
 use Rattle.disk_model.specs.declared.name.Role.TheVariants as roles
@@ -46,12 +47,14 @@ pub record HoldAll (row : SessionRow) (messages : List (List ℕ)) (low high rec
 
 -- .. of three disks, by what is read of them
 abbrev pub DisksHoldAll : {D : Type 0} → Meaning D → SessionRow → List (List ℕ) → Trio D → Type 0
-DisksHoldAll m row messages disks = HoldAll row messages (m.reading disks.low) (m.reading disks.high) (m.reading disks.recv)
+DisksHoldAll m row messages disks = HoldAll row messages (m.reading disks.low) (m.reading disks.high)
+    (m.reading disks.recv)
 
 -- .. and a session can begin on them
-pub record HasAll {D : Type 0} (m : Meaning D) (row : SessionRow) (messages : List (List ℕ)) (disks : Trio D) : Type 0 where
-  pub can_open : CanOpen row (all_taken messages)
-  pub hold : DisksHoldAll m row messages disks
+pub record HasAll {D : Type 0} (m : Meaning D) (row : SessionRow) (messages : List (List ℕ)) (disks : Trio D) : Type 0
+  where
+    pub can_open : CanOpen row (all_taken messages)
+    pub hold : DisksHoldAll m row messages disks
 
 -- the answer is not that all was sent
 abbrev pub IsFailure : WrapEnd → Type 0
@@ -59,16 +62,19 @@ IsFailure (ends.Done bytes messages) = ⊥
 IsFailure end = Unit {0}
 
 -- so many messages are at the receiver now: these, and all further ones of a cutter
-abbrev pub IsSent : {D : Type 0} → Meaning D → SessionRow → List (List ℕ) → Cutter → Option (List ℕ) → WrapEnd → Trio D → Type 0
+abbrev pub IsSent : {D : Type 0} → Meaning D → SessionRow → List (List ℕ) → Cutter → Option (List ℕ) → WrapEnd → Trio D
+    → Type 0
 IsSent m row messages cutter left (ends.Done bytes count) disks =
-    (more : List (List ℕ)) × AreToCome cutter left more × (count ≡ length (messages ++ more)) × DisksHoldAll m row (messages ++ more) disks
+    (more : List (List ℕ)) × AreToCome cutter left more × (count ≡ length (messages ++ more))
+    × DisksHoldAll m row (messages ++ more) disks
     × IsTotal cutter left bytes
 IsSent m row messages cutter left end disks = Unit {0}
 
 -- the answer is that the whole file is at the receiver
 abbrev pub IsWhole : {D : Type 0} → Meaning D → SessionRow → List ℕ → WrapEnd → Trio D → Type 0
 IsWhole m row file (ends.Done bytes messages) disks =
-    (bytes ≡ length file) × (messages ≡ length (wrapped row.message file)) × DisksHoldAll m row (wrapped row.message file) disks
+    (bytes ≡ length file) × (messages ≡ length (wrapped row.message file))
+    × DisksHoldAll m row (wrapped row.message file) disks
 IsWhole m row file end disks = Unit {0}
 
 -- how an opening ends that failed
@@ -122,17 +128,24 @@ abbrev pub Passes : {D : Type 0} {g : _} → Meaning D → Pump D g → List Pay
 Passes m t messages = (q : Past) × StandsFor m t q × HasPassed messages q.world
 
 -- a pump that began with these messages, over which further ones of a cutter were sent until this end
-abbrev pub SendsPart : {D : Type 0} {g : _} → Meaning D → Pump D g → List Payload → Cutter → Option (List ℕ) → WrapEnd → Type 0
-SendsPart m t messages cutter left (ends.Stopped stop) = (more : List (List ℕ)) × AreFirst cutter left more × Halts m t messages (messages ++ more) stop
-SendsPart m t messages cutter left ends.Read = (more : List (List ℕ)) × AreFirst cutter left more × Passes m t (messages ++ more)
-SendsPart m t messages cutter left ends.TooLong = (more : List (List ℕ)) × AreFirst cutter left more × Passes m t (messages ++ more)
+abbrev pub SendsPart : {D : Type 0} {g : _} → Meaning D → Pump D g → List Payload → Cutter → Option (List ℕ) → WrapEnd
+    → Type 0
+SendsPart m t messages cutter left (ends.Stopped stop) = (more : List (List ℕ)) × AreFirst cutter left more
+    × Halts m t messages (messages ++ more) stop
+SendsPart m t messages cutter left ends.Read = (more : List (List ℕ)) × AreFirst cutter left more
+    × Passes m t (messages ++ more)
+SendsPart m t messages cutter left ends.TooLong = (more : List (List ℕ)) × AreFirst cutter left more
+    × Passes m t (messages ++ more)
 SendsPart m t messages cutter left end = ⊥
 
 -- a pump that began with these messages, and over which all further ones of a cutter were sent
-abbrev pub Sends : {D : Type 0} {g : _} → Meaning D → Pump D g → SessionRow → List Payload → Cutter → Option (List ℕ) → Result ℕ WrapEnd → Type 0
+abbrev pub Sends : {D : Type 0} {g : _} → Meaning D → Pump D g → SessionRow → List Payload → Cutter → Option (List ℕ)
+    → Result ℕ WrapEnd → Type 0
 Sends m t row messages cutter left (Ok count) =
-    (more : List (List ℕ)) × (q : Past) × LedBy row (first_past row (all_taken messages)) (greeting row ∷ send_lines row (length messages) 0 more) q
-    × StandsFor m t q × HasPassed (messages ++ more) q.world × (count ≡ length (messages ++ more)) × AreToCome cutter left more
+    (more : List (List ℕ)) × (q : Past)
+    × LedBy row (first_past row (all_taken messages)) (greeting row ∷ send_lines row (length messages) 0 more) q
+    × StandsFor m t q × HasPassed (messages ++ more) q.world × (count ≡ length (messages ++ more))
+    × AreToCome cutter left more
 Sends m t row messages cutter left (Err end) = SendsPart m t messages cutter left end
 
 -- a disk stops a sending only where its count of failed calls rose; nothing but these stops it

@@ -3,7 +3,8 @@
 ghost use Rattle.std.specs.Prelude.{◌≡◌, ℕ, ◌≤◌, false, List, OnOk};
 ghost use Rattle.disk_model.specs.Disk.{Moves, Same};
 ghost use Rattle.stable_buffer.specs.Log.{RecvStands};
-ghost use Rattle.high_receiver.specs.Receiving.{IsRecvReady, recv_count, recv_disk, recv_end, recv_is_open, recv_row, recv_size};
+ghost use Rattle.high_receiver.specs.Receiving.{IsRecvReady, recv_count, recv_disk, recv_end, recv_is_open, recv_row};
+ghost use Rattle.high_receiver.specs.Receiving.{recv_size};
 ghost use Rattle.pump_wrapper.specs.Comparing.{Compares, CompareCause, IsDeviceStop, SameBytes, TakesInAll};
 ghost use Rattle.pump_wrapper.specs.Cutting.{MayCut, cut_message};
 

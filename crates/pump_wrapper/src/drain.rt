@@ -7,7 +7,7 @@ ghost use Rattle.script_reader.specs.Openings.{Found, CanOpen, accepted_in, firs
 ghost use Rattle.two_worlds.specs.Pumps.{StandsFor, disk_at, is_down, row_of};
 ghost use Rattle.pump_frame.specs.Rows.{IsLawfulRow};
 ghost use Rattle.pump_wrapper.specs.Comparing.{Begins};
-ghost use Rattle.pump_wrapper.specs.Crashes.{KeepsFront};
+ghost use Rattle.pump_wrapper.specs.Crashes.{KeepsPrefix};
 ghost use Rattle.pump_wrapper.specs.Sending.{RoseBy};
 ghost use Rattle.pump_wrapper.specs.Wraps.{Drains};
 
@@ -24,7 +24,7 @@ pub fn drain<D: Disk>(pump: &mut Pump<D>) -> Result<(), Stop>
     ensures keeps { D.told.tells → (f : Found) → IsLawfulRow (row_of pump.old) → CanOpen (row_of pump.old) f
         → StandsFor D.told pump.old (first_past (row_of pump.old) f)
         → (all : List (List ℕ)) → Begins (accepted_in f) all
-        → KeepsFront D.told (row_of pump.old) all (disk_at roles.Recv pump.old) (disk_at roles.Recv pump.new) }
+        → KeepsPrefix D.told (row_of pump.old) all (disk_at roles.Recv pump.old) (disk_at roles.Recv pump.new) }
     ensures counts { (role : Role) → D.told.count (disk_at role pump.old) ≤ D.told.count (disk_at role pump.new) }
     ensures rose { IfErr result (RoseBy D.told pump.old pump.new) }
     ensures row { row_of pump.new ≡ row_of pump.old }

@@ -1,6 +1,7 @@
 //! A file is sent over a session's pump.
 
-ghost use Rattle.std.specs.Prelude.{◌≡◌, ◌≢◌, ◌⊎◌, ℕ, ◌≤◌, ◌++◌, false, List, [], Option, Some, Ok, Err, IfOk, IfErr, OnOk};
+ghost use Rattle.std.specs.Prelude.{◌≡◌, ◌≢◌, ◌⊎◌, ℕ, ◌≤◌, ◌++◌, false, List, [], Option, Some, Ok, Err, IfOk, IfErr};
+ghost use Rattle.std.specs.Prelude.{OnOk};
 ghost use Rattle.disk_model.specs.Disk.{Moves, Same};
 ghost use Rattle.disk_model.specs.declared.name.Role.{Role as DiskRole};
 ghost use Rattle.disk_model.specs.declared.name.Role.TheVariants as roles;
@@ -14,11 +15,14 @@ ghost use Rattle.world_laws.specs.Disks.{LeaveWorld};
 ghost use Rattle.two_worlds.specs.Openings.{IsLeft};
 ghost use Rattle.two_worlds.specs.Pumps.{StandsFor, StandsOrFails, disk_at, is_down, row_of};
 ghost use Rattle.pump_wrapper.specs.Comparing.{Begins, Compares, SameBytes};
-ghost use Rattle.pump_wrapper.specs.Crashes.{LeavesFront, LeavesFrontSince};
+ghost use Rattle.pump_wrapper.specs.Crashes.{LeavesPrefix, LeavesPrefixSince};
 ghost use Rattle.pump_wrapper.specs.Cutting.{Gave, MayCut, cut_bytes, cut_message};
 ghost use Rattle.pump_wrapper.specs.Wrapped.{wrapped};
-ghost use Rattle.pump_wrapper.specs.Wraps.{AreFirst, IsWhole, IsSent, HasAll, HasPassed, end_of_comparison, end_of_opening, end_of_sending, is_too_long};
-ghost use Rattle.pump_wrapper.specs.WrapEnds.{TakesSoFar, ComparesNot, Continues, Empties, Ends, EndsEarly, EndsOn, HasDiskCause, IsNotOpened, KeepsFrontOf, LeavesFrontBy, RefusesDisks, Stand};
+ghost use Rattle.pump_wrapper.specs.Wraps.{AreFirst, IsWhole, IsSent, HasAll, HasPassed, end_of_comparison};
+ghost use Rattle.pump_wrapper.specs.Wraps.{end_of_opening, end_of_sending, is_too_long};
+ghost use Rattle.pump_wrapper.specs.WrapEnds.{TakesSoFar, ComparesNot, Continues, Empties, Ends, EndsEarly, EndsOn};
+ghost use Rattle.pump_wrapper.specs.WrapEnds.{HasDiskCause, IsNotOpened, KeepsPrefixOf, LeavesPrefixBy, RefusesDisks};
+ghost use Rattle.pump_wrapper.specs.WrapEnds.{Stand};
 ghost use Rattle.pump_wrapper.specs.declared.file_sender.WrapEnd.TheVariants as ends;
 
 use crate::compare::{CompareFault, skip_received};
@@ -102,7 +106,8 @@ fn open<D: Disk>(alloc: Global, row: &SessionRow, disks: Trio<D>) -> Result<Pump
     ensures opens { IfOk result (λ pump. D.told.tells → (f : Found) × Stand D.told row.now disks f) }
     ensures stands { IfOk result (λ pump. D.told.tells → (f : Found) → Stand D.told row.now disks f
         → StandsFor D.told pump (first_past row.now f)) }
-    ensures counts { IfOk result (λ pump. (role : DiskRole) → D.told.count (disk_of disks role) ≤ D.told.count (disk_at role pump)) }
+    ensures counts { IfOk result (λ pump. (role : DiskRole)
+        → D.told.count (disk_of disks role) ≤ D.told.count (disk_at role pump)) }
     ensures row { IfOk result (λ pump. row_of pump ≡ row.now) }
     ensures recv { IfOk result (λ pump. IsLeft D.told row.now roles.Recv disks.recv (disk_at roles.Recv pump) false) }
     ensures up { IfOk result (λ pump. is_down pump ≡ false) }
@@ -124,9 +129,11 @@ fn open<D: Disk>(alloc: Global, row: &SessionRow, disks: Trio<D>) -> Result<Pump
 
 /// The disks of a pump.
 fn close<D: Disk>(pump: Pump<D>) -> Trio<D>
-    ensures all { D.told.tells → (messages : List (List ℕ)) → (q : Past) → StandsFor D.told pump q → HasPassed messages q.world
+    ensures all { D.told.tells → (messages : List (List ℕ)) → (q : Past) → StandsFor D.told pump q
+        → HasPassed messages q.world
         → HasAll D.told (row_of pump) messages result }
-    ensures left { (q : Past) → StandsOrFails D.told pump q → LeaveWorld D.told (row_of pump) q.world result.low result.high result.recv }
+    ensures left { (q : Past) → StandsOrFails D.told pump q
+        → LeaveWorld D.told (row_of pump) q.world result.low result.high result.recv }
     ensures disks { (role : DiskRole) → disk_of result role ≡ disk_at role pump }
 {
     let (low, high, recv) = pump.close();
@@ -160,7 +167,8 @@ fn compare<D: Disk, I: Source>(
 ) -> (D, Result<(), WrapEnd>)
     requires lawful { IsLawfulRow row.now }
     requires may { MayCut cutter.old }
-    ensures compares { OnOk result.1 (D.told.tells → (messages : List (List ℕ)) → RecvStands row.now messages (D.told.reading recv)
+    ensures compares { OnOk result.1 (D.told.tells → (messages : List (List ℕ))
+        → RecvStands row.now messages (D.told.reading recv)
         → Compares messages cutter.old cutter.new (I.left file.old) (I.left file.new) (Ok tt)) }
     ensures not { IfErr result.1 (λ end. ComparesNot D.told row.now recv result.0 cutter.old (I.left file.old) end) }
     ensures bytes { OnOk result.1 (SameBytes cutter.old cutter.new (I.left file.old) (I.left file.new)) }
@@ -205,12 +213,14 @@ fn send_further<D: Disk, I: Source>(
         → (whole : Option (List ℕ)) → Continues row.now whole messages cutter.old (I.left file.old)
         → EndsOn D.told row.now whole messages result.end result.disks }
     ensures images { D.told.tells_images → (messages : List (List ℕ)) → HasAll D.told row.now messages disks
-        → LeavesFront D.told row.now messages disks.recv
-        → (all : List (List ℕ)) → Begins messages all → ((more : List (List ℕ)) → AreFirst cutter.old (I.left file.old) more → Begins (messages ++ more) all)
-        → LeavesFront D.told row.now all result.disks.recv }
+        → LeavesPrefix D.told row.now messages disks.recv
+        → (all : List (List ℕ)) → Begins messages all
+        → ((more : List (List ℕ)) → AreFirst cutter.old (I.left file.old) more → Begins (messages ++ more) all)
+        → LeavesPrefix D.told row.now all result.disks.recv }
     ensures keeps { D.told.tells_images → (messages : List (List ℕ)) → HasAll D.told row.now messages disks
-        → (all : List (List ℕ)) → Begins messages all → ((more : List (List ℕ)) → AreFirst cutter.old (I.left file.old) more → Begins (messages ++ more) all)
-        → KeepsFrontOf D.told row.now all disks.recv result.disks.recv }
+        → (all : List (List ℕ)) → Begins messages all
+        → ((more : List (List ℕ)) → AreFirst cutter.old (I.left file.old) more → Begins (messages ++ more) all)
+        → KeepsPrefixOf D.told row.now all disks.recv result.disks.recv }
     ensures cause { HasDiskCause D.told disks result.disks result.end }
     ensures gave { Gave (cut_bytes cutter.old) (I.left file.old) (I.left file.new) (is_too_long result.end) }
     ensures read { result.end ≡ ends.Read → Rose (I.faults file.old) (I.faults file.new) }
@@ -244,18 +254,21 @@ pub fn wrap<D: Disk, I: Source>(
 ) -> Wrapped<D>
     requires lawful { IsLawfulRow row.now }
     requires least { 9 ≤ row.now.message }
-    ensures whole { D.told.tells → (bytes : List ℕ) → I.left file.old ≡ Some bytes → IsWhole D.told row.now bytes result.end result.disks }
+    ensures whole { D.told.tells → (bytes : List ℕ) → I.left file.old ≡ Some bytes
+        → IsWhole D.told row.now bytes result.end result.disks }
     ensures ends { D.told.tells → (f : Found) → Stand D.told row.now disks f
         → Ends D.told row.now (I.left file.old) (I.left file.new) (accepted_in f) disks result.end result.disks }
     ensures opened { D.told.tells → IsNotOpened result.end ⊎ ((f : Found) × Stand D.told row.now disks f) }
     ensures refused { RefusesDisks D.told row.now disks result.end result.disks }
-    ensures images { D.told.tells_images → (f : Found) → Stand D.told row.now disks f → (bytes : List ℕ) → I.left file.old ≡ Some bytes
+    ensures images { D.told.tells_images → (f : Found) → Stand D.told row.now disks f → (bytes : List ℕ)
+        → I.left file.old ≡ Some bytes
         → Begins (accepted_in f) (wrapped row.now.message bytes)
-        → LeavesFrontBy D.told row.now disks result.end result.disks (wrapped row.now.message bytes) }
-    ensures since { D.told.tells_images → (f : Found) → Stand D.told row.now disks f → (bytes : List ℕ) → I.left file.old ≡ Some bytes
+        → LeavesPrefixBy D.told row.now disks result.end result.disks (wrapped row.now.message bytes) }
+    ensures since { D.told.tells_images → (f : Found) → Stand D.told row.now disks f → (bytes : List ℕ)
+        → I.left file.old ≡ Some bytes
         → Begins (accepted_in f) (wrapped row.now.message bytes) → D.told.reading disks.recv ≢ []
-        → LeavesFront D.told row.now (wrapped row.now.message bytes) disks.recv
-        → LeavesFrontSince D.told row.now (wrapped row.now.message bytes) disks.recv result.disks.recv }
+        → LeavesPrefix D.told row.now (wrapped row.now.message bytes) disks.recv
+        → LeavesPrefixSince D.told row.now (wrapped row.now.message bytes) disks.recv result.disks.recv }
     ensures gave { Gave 0 (I.left file.old) (I.left file.new) (is_too_long result.end) }
     ensures cause { HasDiskCause D.told disks result.disks result.end }
     ensures read { result.end ≡ ends.Read → Rose (I.faults file.old) (I.faults file.new) }

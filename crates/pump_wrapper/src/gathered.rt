@@ -3,10 +3,11 @@
 ghost use Rattle.std.specs.Prelude.{◌≡◌, ◌≢◌, ℕ, ◌≤◌, List, [], true, false, Err};
 ghost use Rattle.disk_model.specs.Disk.{Moves, Same};
 ghost use Rattle.stable_buffer.specs.Log.{RecvStands};
-ghost use Rattle.high_receiver.specs.Receiving.{IsRecvReady, recv_count, recv_disk, recv_end, recv_is_open, recv_row, recv_size};
+ghost use Rattle.high_receiver.specs.Receiving.{IsRecvReady, recv_count, recv_disk, recv_end, recv_is_open, recv_row};
+ghost use Rattle.high_receiver.specs.Receiving.{recv_size};
 ghost use Rattle.pump_wrapper.specs.Gathers.{Gathers, GathersBy, GatherCause, IsDeviceFault, IsUnbroken};
 ghost use Rattle.pump_wrapper.specs.HeldBack.{Held, held_in};
-ghost use Rattle.pump_link.specs.Causes.{AppendsFront};
+ghost use Rattle.pump_link.specs.Causes.{AppendsPrefix};
 
 use crate::gathering::Gathering;
 use crate::room::Room;
@@ -55,7 +56,8 @@ fn gather_held<D: Disk, O: Sink>(
 
     ensures gathers { D.told.tells → (messages : List (List ℕ))
         → RecvStands (recv_row receiver.old) messages (D.told.reading (recv_disk receiver.old))
-        → GathersBy (Held (O.written out.old) (O.written out.new) (held_in room.new)) (AppendsFront (O.written out.old) (O.written out.new)) message messages result }
+        → GathersBy (Held (O.written out.old) (O.written out.new) (held_in room.new)) (AppendsPrefix (O.written out.old)
+        (O.written out.new)) message messages result }
     ensures ready { (IsDeviceFault result → ⊥) → IsRecvReady D.told receiver.new }
     ensures closed { IsDeviceFault result → recv_is_open receiver.new ≡ false }
     ensures count { recv_count receiver.new ≡ recv_count receiver.old }

@@ -1,7 +1,8 @@
 //! Which messages may follow those that were gathered.
 
 ghost use Rattle.std.specs.Prelude.{◌≡◌, ◌+◌, ◌-◌, ◌<◌, ◌≤◌, ◌^◌, false, [], length, IsTrue, IfSome, MatchOption, ◌↔◌};
-ghost use Rattle.pump_wrapper.specs.Wrapped.{IsPiece, piece_message, piece_of};
+ghost use Rattle.file_messages.specs.Messages.{piece_message};
+ghost use Rattle.pump_wrapper.specs.Wrapped.{IsPiece, piece_of};
 ghost use Rattle.pump_wrapper.specs.Gathering.{Follows, HasTaken, Refuses, Steps, gathering_bytes, gathering_size};
 
 use crate::length::spell_length;

@@ -6,7 +6,6 @@ mod compare;
 mod cutter;
 mod drain;
 mod file_sender;
-mod fill;
 mod gathered;
 mod gathering;
 pub mod laws;
@@ -16,6 +15,7 @@ mod room;
 mod sending;
 
 pub use compare::{CompareFault, skip_received};
-pub use cutter::{Cut, Cutter};
+pub use cutter::Cutter;
+pub use file_cutter::Cut;
 pub use file_sender::{WrapEnd, Wrapped, wrap};
 pub use gathered::{GatherFault, Gathered, gather};

@@ -39,7 +39,8 @@ fn look<D: Disk>(
     requires room { CanHold arrival bytes.now }
     requires moment { moment ≤ 2 ^ 62 }
     requires up { is_down pump.old ≡ false }
-    ensures goes { Goes D.told pump.old pump.new (lines.Look (row_of pump.old).id moment 0 (arriving_with bytes.now arrival) ∷ []) result }
+    ensures goes { Goes D.told pump.old pump.new (lines.Look (row_of pump.old).id moment 0
+        (arriving_with bytes.now arrival) ∷ []) result }
     ensures up { OnOk result (is_down pump.new ≡ false) }
 {
     let line = LineHead::Look {

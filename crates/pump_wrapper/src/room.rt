@@ -2,7 +2,7 @@
 
 ghost use Rattle.std.specs.Prelude.{◌≡◌, ℕ, ◌+◌, ◌≤◌, List, [], ◌++◌, length, Option, OnOk, OnErr};
 ghost use Rattle.std.specs.Io.KnownBytes.{Appends};
-ghost use Rattle.pump_link.specs.Causes.{HasCause, AppendsFront};
+ghost use Rattle.pump_link.specs.Causes.{HasCause, AppendsPrefix};
 ghost use Rattle.pump_wrapper.specs.HeldBack.{Held, held_in};
 
 use pump_link::{Sink, WriteFault, write_all};
@@ -87,7 +87,7 @@ impl Room {
     pub fn flush<O: Sink>(&mut self, out: &mut O) -> Result<(), WriteFault>
         ensures ok { OnOk result (Appends (O.written out.old) (O.written out.new) (held_in self.old)) }
         ensures empty { OnOk result (held_in self.new ≡ []) }
-        ensures err { OnErr result (AppendsFront (O.written out.old) (O.written out.new) (held_in self.old)) }
+        ensures err { OnErr result (AppendsPrefix (O.written out.old) (O.written out.new) (held_in self.old)) }
         ensures cause { HasCause (O.faults out.old) (O.faults out.new) result }
     {
         write_all(out, self.held.as_slice())?;
@@ -99,14 +99,16 @@ impl Room {
     /// the rest is held: whole pages are written faster.
     pub fn put<O: Sink>(&mut self, piece: &[u8], out: &mut O) -> Result<(), WriteFault>
         requires short { length piece.now ≤ 1024 }
-        ensures ok { OnOk result ((before : Option (List ℕ)) (bytes : List ℕ) → Held before (O.written out.old) (held_in self.old) bytes
+        ensures ok { OnOk result ((before : Option (List ℕ)) (bytes : List ℕ)
+            → Held before (O.written out.old) (held_in self.old) bytes
             → Held before (O.written out.new) (held_in self.new) (bytes ++ piece.now)) }
-        ensures err { OnErr result (AppendsFront (O.written out.old) (O.written out.new) (held_in self.old ++ piece.now)) }
+        ensures err { OnErr result (AppendsPrefix (O.written out.old) (O.written out.new)
+            (held_in self.old ++ piece.now)) }
         ensures cause { HasCause (O.faults out.old) (O.faults out.new) result }
     {
         let fitting = self.held.room().min(piece.len());
-        let (front, rest) = piece.split_at(fitting);
-        self.held.push(front);
+        let (prefix, rest) = piece.split_at(fitting);
+        self.held.push(prefix);
         if !rest.is_empty() {
             self.flush(out)?;
             self.held.push(rest);

@@ -8,7 +8,7 @@ ghost use Rattle.pump_frame.specs.Rows.{IsLawfulRow};
 ghost use Rattle.script_reader.specs.Openings.{CanOpen, first_past};
 ghost use Rattle.two_worlds.specs.Pumps.{StandsFor, disk_at, is_down, row_of};
 ghost use Rattle.pump_wrapper.specs.Comparing.{Begins};
-ghost use Rattle.pump_wrapper.specs.Crashes.{KeepsFront};
+ghost use Rattle.pump_wrapper.specs.Crashes.{KeepsPrefix};
 ghost use Rattle.pump_wrapper.specs.Cutting.{Gave, IsTotal, MayCut, cut_bytes, cut_message};
 ghost use Rattle.pump_wrapper.specs.declared.file_sender.WrapEnd.TheVariants.{Read};
 ghost use Rattle.pump_wrapper.specs.Wraps.{AreFirst, IsFailure, Sends, SendCause, all_taken, is_long_in};
@@ -34,13 +34,16 @@ pub fn send_rest<D: Disk, I: Source>(
     requires up { is_down pump.old ≡ false }
     requires may { MayCut cutter.old }
     requires message { cut_message cutter.old ≡ (row_of pump.old).message }
-    ensures sends { D.told.tells → (messages : List (List ℕ)) → IsLawfulRow (row_of pump.old) → CanOpen (row_of pump.old) (all_taken messages)
+    ensures sends { D.told.tells → (messages : List (List ℕ)) → IsLawfulRow (row_of pump.old)
+        → CanOpen (row_of pump.old) (all_taken messages)
         → StandsFor D.told pump.old (first_past (row_of pump.old) (all_taken messages))
         → Sends D.told pump.new (row_of pump.old) messages cutter.old (I.left file.old) result }
-    ensures keeps { D.told.tells → (messages : List (List ℕ)) → IsLawfulRow (row_of pump.old) → CanOpen (row_of pump.old) (all_taken messages)
+    ensures keeps { D.told.tells → (messages : List (List ℕ)) → IsLawfulRow (row_of pump.old)
+        → CanOpen (row_of pump.old) (all_taken messages)
         → StandsFor D.told pump.old (first_past (row_of pump.old) (all_taken messages))
-        → (all : List (List ℕ)) → ((more : List (List ℕ)) → AreFirst cutter.old (I.left file.old) more → Begins (messages ++ more) all)
-        → KeepsFront D.told (row_of pump.old) all (disk_at roles.Recv pump.old) (disk_at roles.Recv pump.new) }
+        → (all : List (List ℕ)) → ((more : List (List ℕ)) → AreFirst cutter.old (I.left file.old) more
+        → Begins (messages ++ more) all)
+        → KeepsPrefix D.told (row_of pump.old) all (disk_at roles.Recv pump.old) (disk_at roles.Recv pump.new) }
     ensures total { OnOk result (IsTotal cutter.old (I.left file.old) (cut_bytes cutter.new)) }
     ensures gave { Gave (cut_bytes cutter.old) (I.left file.old) (I.left file.new) (is_long_in result) }
     ensures read { result ≡ Err Read → Rose (I.faults file.old) (I.faults file.new) }

@@ -3,7 +3,7 @@ use Rattle.std.proofs.Common.{◌≡◌, ◌⊎◌, inl, inr, ℕ, ◌≤◌, Bo
 use Rattle.std.specs.Prelude.{◌||◌}
 use Rattle.std.specs.Io.KnownBytes.{Appends}
 use Rattle.pump_frame.specs.Counts.{Rose}
-use Rattle.pump_link.specs.Causes.{AppendsFront}
+use Rattle.pump_link.specs.Causes.{AppendsPrefix}
 use Rattle.pump_link.proofs.Known.{Appends-none, Appends-then}
 use Rattle.race.specs.Tape.{held_of, has_failed, Keeps, Prints, Written}
 use Rattle.race.specs.declared.tape.Tape.{Tape}
@@ -11,20 +11,20 @@ use Rattle.race.specs.declared.tape.Tape.{Tape}
 pub rose_later : (a b c : ℕ) → a ≤ b → Rose b c → Rose a c
 rose_later a b c le h = omega (arith, le, h)
 
-front_more : (a b : Option (List ℕ)) (x y : List ℕ) → AppendsFront a b x → AppendsFront a b (x ++ y)
-front_more a b x y (front, rest, is, p) = (front, rest ++ y, ap (λ (z : List ℕ). z ++ y) is ∙ append_assoc front rest y, p)
+prefix_more : (a b : Option (List ℕ)) (x y : List ℕ) → AppendsPrefix a b x → AppendsPrefix a b (x ++ y)
+prefix_more a b x y (prefix, rest, is, p) = (prefix, rest ++ y, ap (λ (z : List ℕ). z ++ y) is ∙ append_assoc prefix rest y, p)
 
-all_front : (a b : Option (List ℕ)) (x : List ℕ) → Appends a b x → AppendsFront a b x
-all_front a b x p = (x, [], sym (append-nil x), p)
+all_prefix : (a b : Option (List ℕ)) (x : List ℕ) → Appends a b x → AppendsPrefix a b x
+all_prefix a b x p = (x, [], sym (append-nil x), p)
 
-then_front : (a b c : Option (List ℕ)) (x y : List ℕ) → Appends a b x → AppendsFront b c y → AppendsFront a c (x ++ y)
-then_front a b c x y p (front, rest, is, q) = (x ++ front, rest, ap (λ (z : List ℕ). x ++ z) is ∙ sym (append_assoc x front rest), Appends-then a b c x front p q)
+then_prefix : (a b c : Option (List ℕ)) (x y : List ℕ) → Appends a b x → AppendsPrefix b c y → AppendsPrefix a c (x ++ y)
+then_prefix a b c x y p (prefix, rest, is, q) = (x ++ prefix, rest, ap (λ (z : List ℕ). x ++ z) is ∙ sym (append_assoc x prefix rest), Appends-then a b c x prefix p q)
 
 -- a new tape
 pub keeps_none : (tape : Tape) (start : Option (List ℕ)) (count : ℕ) → held_of tape ≡ [] → has_failed tape ≡ false → Keeps tape start start count count []
 keeps_none tape start count empty going = record {
   whole = λ e. ([], Appends-none start, sym empty);
-  front = all_front start start [] (Appends-none start);
+  prefix = all_prefix start start [] (Appends-none start);
   cause = λ e. (let no = sym e ∙ going in absurd (cc));
   later = le_refl count;
 }
@@ -36,7 +36,7 @@ keeps_more tape later start now first count bytes more held failed k = record {
   whole = λ e.
       let w = k.whole (sym failed ∙ e) in
       (w.0, w.1, ap (λ (z : List ℕ). z ++ more) w.2 ∙ append_assoc w.0 (held_of tape) more ∙ ap (λ (z : List ℕ). w.0 ++ z) (sym held));
-  front = front_more start now bytes more k.front;
+  prefix = prefix_more start now bytes more k.prefix;
   cause = λ e. k.cause (sym failed ∙ e);
   later = k.later;
 }
@@ -49,19 +49,19 @@ keeps_written tape later start now new first count count' bytes going empty stil
     let all : Appends start new bytes = subst (Appends start new) (sym w.2) (Appends-then start now new w.0 (held_of tape) w.1 p) in
     record {
       whole = λ e. (bytes, all, sym (append-nil bytes) ∙ ap (λ (z : List ℕ). bytes ++ z) (sym empty));
-      front = all_front start new bytes all;
+      prefix = all_prefix start new bytes all;
       cause = λ e. (let no = sym e ∙ still in absurd (cc));
       later = le_trans k.later le;
     }
 
 -- the write failed
 pub keeps_cut : (tape later : Tape) (start now new : Option (List ℕ)) (first count count' : ℕ) (bytes : List ℕ) → has_failed tape ≡ false → has_failed later ≡ true → count ≤ count' → Rose count count'
-    → AppendsFront now new (held_of tape) → Keeps tape start now first count bytes → Keeps later start new first count' bytes
+    → AppendsPrefix now new (held_of tape) → Keeps tape start now first count bytes → Keeps later start new first count' bytes
 keeps_cut tape later start now new first count count' bytes going failed le rose p k =
     let w = k.whole going in
     record {
       whole = λ e. (let no = sym e ∙ failed in absurd (cc));
-      front = subst (AppendsFront start new) (sym w.2) (then_front start now new w.0 (held_of tape) w.1 p);
+      prefix = subst (AppendsPrefix start new) (sym w.2) (then_prefix start now new w.0 (held_of tape) w.1 p);
       cause = λ e. rose_later first count count' k.later rose;
       later = le_trans k.later le;
     }
@@ -72,7 +72,7 @@ written_of tape start now first count bytes empty k = record {
   whole = λ e.
       let w = k.whole e in
       subst (Appends start now) (sym (append-nil w.0) ∙ ap (λ (z : List ℕ). w.0 ++ z) (sym empty) ∙ sym w.2) w.1;
-  front = k.front;
+  prefix = k.prefix;
   cause = k.cause;
 }
 

@@ -1,5 +1,6 @@
 -- The high half of a race between two looks.
-use Rattle.std.specs.Prelude.{◌≡◌, ℕ, ◌+◌, ◌*◌, ◌^◌, ◌<◌, ◌≤◌, Bool, true, false, nat_le, if◌then◌else◌, List, [], ◌∷◌, ◌++◌, length, map, Option, Some, None}
+use Rattle.std.specs.Prelude.{◌≡◌, ℕ, ◌+◌, ◌*◌, ◌^◌, ◌<◌, ◌≤◌, Bool, true, false, nat_le, if◌then◌else◌, List, [], ◌∷◌}
+use Rattle.std.specs.Prelude.{◌++◌, length, map, Option, Some, None}
 use Rattle.std.specs.List.{All}
 use Rattle.pump_frame.specs.declared.frame.Frame.{Frame}
 use Rattle.pump_frame.specs.declared.frame.Item.{Item}
@@ -46,7 +47,8 @@ SentBelow n sends = All (λ s. s.number < n) sends
 
 -- The hand has this message: it is numbered `removed`, the end gave it after those in `before`, and it
 -- was sent once, at this moment.
-pub record IsNext (before : List Item) (removed : ℕ) (sends : List Sending) (taken : List Item) (moment : ℕ) (x : Item) : Type 0 where
+pub record IsNext (before : List Item) (removed : ℕ) (sends : List Sending) (taken : List Item) (moment : ℕ) (x : Item)
+    : Type 0 where
   pub number : x.number ≡ removed
   pub given : Item
   pub taken_is : taken ≡ before ++ given ∷ []

@@ -9,7 +9,8 @@ use Rattle.race.specs.HighHalf.{HighAt}
 use Rattle.race.specs.Turns.{done_in, asks_of, AsksHigh, CountsStop}
 use Rattle.race.specs.declared.high_work.HighWork.{HighWork}
 
-module _ {H G : Type 0} (stands : H → Low → High → Type 0) (place : H → List TableId) (shape : H → Shape) (asked : G → List (ℕ × ℕ) → Type 0) (stops : G → ℕ) where
+module _ {H G : Type 0} (stands : H → Low → High → Type 0) (place : H → List TableId) (shape : H → Shape) (asked : G
+    → List (ℕ × ℕ) → Type 0) (stops : G → ℕ) where
   -- it stands before its first look
   abbrev pub HighCan : HighWork H G → Type 0
   HighCan w = HighAt stands false w.half.now × (removed_of w.half.now.process ≡ 0) × (w.is_stopped ≡ false)
@@ -37,6 +38,8 @@ module _ {H G : Type 0} (stands : H → Low → High → Type 0) (place : H → 
     pub keeps : KeepsHigh v w
     -- what its end did, beside a low end that did nothing
     pub any : (high : High) × stands w.half.now.ends new_low high
-    pub ended : w.is_stopped ≡ false → HighAt stands false w.half.now × (w.half.now.count ≤ removed_of w.half.now.process)
+    pub ended : w.is_stopped ≡ false → HighAt stands false w.half.now
+        × (w.half.now.count ≤ removed_of w.half.now.process)
     pub stops_so : CountsStop w.is_stopped (stops v.gate.now) (stops w.gate.now)
-    pub asks : AsksHigh w.half.now.count w.is_stopped (asked v.gate.now) (asked w.gate.now) (recv_disk w.half.now.receiver).bytes
+    pub asks : AsksHigh w.half.now.count w.is_stopped (asked v.gate.now) (asked w.gate.now)
+        (recv_disk w.half.now.receiver).bytes

@@ -1,6 +1,7 @@
 -- The low half of a race between two looks: the low process with its store and its end, and what is
 -- left of the generated script.
-use Rattle.std.specs.Prelude.{◌≡◌, ◌⊎◌, ℕ, ◌+◌, ◌≤◌, Bool, true, false, if◌then◌else◌, List, [], ◌∷◌, ◌++◌, length, map, Option, Some, None}
+use Rattle.std.specs.Prelude.{◌≡◌, ◌⊎◌, ℕ, ◌+◌, ◌≤◌, Bool, true, false, if◌then◌else◌, List, [], ◌∷◌, ◌++◌, length, map}
+use Rattle.std.specs.Prelude.{Option, Some, None}
 use Rattle.std.specs.List.{AllByRecursion}
 use Rattle.pump_frame.specs.declared.frame.Frame.{Frame}
 use Rattle.pump_frame.specs.declared.frame.Item.{Item}
@@ -53,7 +54,8 @@ frames_so_far greeted items = if greeted then hello_frame ∷ map data_frame ite
 
 -- After these looks, with these messages still to come. What was forwarded, with the hand, and what is
 -- still to come are the messages of the race.
-pub record LowAt {L : Type 0} (stands : L → Low → High → Type 0) (shape : L → Shape) (w : LowHalf L) (left : List Item) (made : List Made) : Type 0 where
+pub record LowAt {L : Type 0} (stands : L → Low → High → Type 0) (shape : L → Shape) (w : LowHalf L) (left : List Item)
+    (made : List Made) : Type 0 where
   pub are_made : AreMade generated_row race_opening made
   pub history : StandsFor w.process (history_made race_opening made)
   pub replies : LowReplies generated_row (history_made race_opening made) (replies_made made)

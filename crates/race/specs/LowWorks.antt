@@ -20,8 +20,10 @@ use Rattle.race.specs.declared.low_work.LowWork.{LowWork}
 abbrev pub IsLowDone : {L : Type 0} → LowHalf L → Type 0
 IsLowDone w = (is_idle w.process ≡ true) × (w.count ≤ next_of w.process)
 
-module _ {K O L G : Type 0} (reads : K → List ℕ → Type 0) (floor : K → ℕ) (written : O → Option (List ℕ)) (faults : O → ℕ)
-    (stands : L → Low → High → Type 0) (place : L → List TableId) (shape : L → Shape) (asked : G → List (ℕ × ℕ) → Type 0) (stops : G → ℕ) where
+module _ {K O L G : Type 0} (reads : K → List ℕ → Type 0) (floor : K → ℕ) (written : O → Option (List ℕ)) (faults : O
+    → ℕ)
+    (stands : L → Low → High → Type 0) (place : L → List TableId) (shape : L → Shape) (asked : G → List (ℕ × ℕ)
+    → Type 0) (stops : G → ℕ) where
   pub record LowCan (w : LowWork K O L G) : Type 0 where
     pub at : LowRests stands shape w.half.now []
     pub order : last_of w.half.now.process ≤ floor w.clock.now
@@ -47,7 +49,8 @@ module _ {K O L G : Type 0} (reads : K → List ℕ → Type 0) (floor : K → �
     pub order : last_of w.half.now.process ≤ floor w.clock.now
     pub row : row_in w.tape.now ≡ generated_row
     pub draws : Draws (reads v.clock.now) (reads w.clock.now) (moments_of made)
-    pub prints : Prints v.tape.now w.tape.now (written v.out.now) (written w.out.now) (faults v.out.now) (faults w.out.now) (looks_text generated_row (record_of made))
+    pub prints : Prints v.tape.now w.tape.now (written v.out.now) (written w.out.now) (faults v.out.now)
+        (faults w.out.now) (looks_text generated_row (record_of made))
     pub readable : AllByRecursion (IsReadable generated_row) (record_of made)
     pub asks_are : Grows (asked v.gate.now) (asked w.gate.now) asks
     pub stops_so : CountsStop w.is_stopped (stops v.gate.now) (stops w.gate.now)

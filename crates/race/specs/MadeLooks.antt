@@ -1,5 +1,6 @@
 -- Readings of the looks of a race. Each list of looks has its newest one first.
-use Rattle.std.specs.Prelude.{◌≡◌, ℕ, ◌^◌, ◌<◌, ◌≤◌, Bool, true, false, not, List, [], ◌∷◌, ◌++◌, length, slice_get, Option, Some, None}
+use Rattle.std.specs.Prelude.{◌≡◌, ℕ, ◌^◌, ◌<◌, ◌≤◌, Bool, true, false, not, List, [], ◌∷◌, ◌++◌, length, slice_get}
+use Rattle.std.specs.Prelude.{Option, Some, None}
 use Rattle.std.specs.List.{All, AllByRecursion}
 use Rattle.pump_frame.specs.Frames.{IsLawful}
 use Rattle.pump_frame.specs.declared.frame.Frame.{Frame}
@@ -77,7 +78,8 @@ pub record IsPlain (m : Made) : Type 0 where
 abbrev pub FullFrom : ℕ → SessionRow → Opening → List Made → Type 0
 FullFrom least row o [] = Unit {0}
 FullFrom least row o (m ∷ before) =
-    (is_full m.look.feedback ≡ true → (parts : List Part) → IsCut row (life_made o (m ∷ before)) parts → least < count_after o parts)
+    (is_full m.look.feedback ≡ true → (parts : List Part) → IsCut row (life_made o (m ∷ before)) parts
+    → least < count_after o parts)
     × FullFrom least row o before
 
 -- the numbers fall from the newest recorded look on
@@ -87,4 +89,5 @@ NumbersFall (s ∷ before) = All (λ t. t.number < s.number) before × NumbersFa
 
 -- a recorded look has the reading and the word of its number
 abbrev pub HasItsOwn : ℕ → List ℕ → Shown → Type 0
-HasItsOwn seed readings s = (slice_get readings s.number ≡ Some s.made.look.moment) × (s.made.look.word ≡ word_of_look seed s.number)
+HasItsOwn seed readings s = (slice_get readings s.number ≡ Some s.made.look.moment)
+    × (s.made.look.word ≡ word_of_look seed s.number)

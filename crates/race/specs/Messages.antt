@@ -33,7 +33,13 @@ abbrev pub race_opening : Opening
 race_opening = record { count = 0; is_held = false }
 
 abbrev pub hello_frame : Frame
-hello_frame = record { kind = kinds.Hello; session = generated_row.id; number = 0; payload = greeting generated_row.low generated_row.high }
+hello_frame = record {
+  kind = kinds.Hello;
+  session = generated_row.id;
+  number = 0;
+  payload = greeting generated_row.low
+      generated_row.high;
+}
 
 abbrev pub data_frame : Item → Frame
 data_frame x = record { kind = kinds.Data; session = generated_row.id; number = x.number; payload = x.payload }

@@ -1,5 +1,6 @@
 -- What a race prints and leaves.
-use Rattle.std.specs.Prelude.{◌≡◌, ℕ, ◌≤◌, Bool, true, false, if◌then◌else◌, List, [], ◌∷◌, ◌++◌, length, take, map, codes, decimal}
+use Rattle.std.specs.Prelude.{◌≡◌, ℕ, ◌≤◌, Bool, true, false, if◌then◌else◌, List, [], ◌∷◌, ◌++◌, length, take, map}
+use Rattle.std.specs.Prelude.{codes, decimal}
 use Rattle.std.specs.List.{All}
 use Rattle.stable_buffer.specs.Low.{StandsForCount}
 use Rattle.stable_buffer.specs.Stands.{HighStands}
@@ -12,7 +13,8 @@ use Rattle.relay_threads.specs.PairsRead.{pairs_of}
 use Rattle.relay_threads.specs.Records.{Made, Shown, AreMade, is_recorded, recorded, made_of, record_of}
 use Rattle.relay_threads.specs.RecordLines.{look_text, opening_line, record_text}
 use Rattle.relay_threads.specs.Replays.{TakeLawful, is_lost, IsReadable, AreReadable}
-use Rattle.race.specs.MadeLooks.{moments_of, acks_of, HaveWords, TakeAll, OnlyFrames, frames_of, FullFrom, NumbersFall, HasItsOwn}
+use Rattle.race.specs.MadeLooks.{moments_of, acks_of, HaveWords, TakeAll, OnlyFrames, frames_of, FullFrom, NumbersFall}
+use Rattle.race.specs.MadeLooks.{HasItsOwn}
 use Rattle.race.specs.Messages.{race_items, race_frames, race_opening}
 use Rattle.race.specs.Turns.{turns, payload_in, done_in, asks_of, asks_in_run}
 
@@ -86,7 +88,8 @@ end_line accepted removed = line_with_end (codes "#" ∷ codes "end" ∷ decimal
 
 -- the comments at the end
 abbrev pub end_lines : List ℕ → ℕ → ℕ → ℕ → List ℕ
-end_lines times received accepted removed = time_lines times ++ (number_line (codes "took") received ++ end_line accepted removed)
+end_lines times received accepted removed = time_lines times ++ (number_line (codes "took") received ++ end_line
+    accepted removed)
 
 -- The bytes are the record of looks that had these readings, each behind one of these asks of the low
 -- worker's gate: of all looks of the low process those are printed that a record has. Each line of it
@@ -104,7 +107,8 @@ pub record IsRaceRecord (seed count : ℕ) (times readings : List ℕ) (asks : L
 
 -- The same of a race of which the low worker or the high one was stopped: its record has no end. The last
 -- ask stopped the low worker, or all messages were acknowledged.
-pub record IsStoppedRecord (seed count : ℕ) (is_low_stopped : Bool) (readings : List ℕ) (asks : List (ℕ × ℕ)) (bytes : List ℕ) : Type 0 where
+pub record IsStoppedRecord (seed count : ℕ) (is_low_stopped : Bool) (readings : List ℕ) (asks : List (ℕ × ℕ))
+    (bytes : List ℕ) : Type 0 where
   pub made : List Made
   pub looks : AreRaceLooks seed made
   pub readings_are : moments_of made ≡ readings

@@ -14,5 +14,6 @@ pub record ReplaysToItself (opens : Openings) (bytes : List ℕ) : Type 0 where
   pub made : List Made
   pub comments : List ℕ
   pub bytes_are : bytes ≡ record_text generated_row race_opening made ++ comments
-  pub lines : AreLines (Some (record_text generated_row race_opening made)) (record_script generated_row race_opening made) (Some [])
+  pub lines : AreLines (Some (record_text generated_row race_opening made)) (record_script generated_row race_opening
+      made) (Some [])
   pub replays : Replays opens generated_row race_opening made

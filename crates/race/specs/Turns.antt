@@ -1,6 +1,7 @@
 -- The times that the receiver of a race needs, one for each message, what it takes, and what the gate
 -- of a worker is asked.
-use Rattle.std.specs.Prelude.{◌≡◌, ℕ, zero, suc, ◌+◌, ◌%◌, ◌^◌, ◌<◌, ◌≤◌, Bool, true, false, if◌then◌else◌, List, [], ◌∷◌, ◌++◌, length, slice_index}
+use Rattle.std.specs.Prelude.{◌≡◌, ℕ, zero, suc, ◌+◌, ◌%◌, ◌^◌, ◌<◌, ◌≤◌, Bool, true, false, if◌then◌else◌, List, []}
+use Rattle.std.specs.Prelude.{◌∷◌, ◌++◌, length, slice_index}
 use Rattle.std.specs.List.{All}
 use Rattle.pump_frame.specs.Counts.{raised, Rose}
 use Rattle.pump_frame.specs.declared.frame.Item.{Item}

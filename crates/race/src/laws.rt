@@ -27,6 +27,7 @@ pub fn works_and_ends_decide()
 pub fn race_records_replay()
     ensures whole { (seed count : ℕ) (times readings : List ℕ) (asks : List (ℕ × ℕ)) (bytes : List ℕ) (opens : Openings)
         → IsRaceRecord seed count times readings asks bytes → ReplaysToItself opens bytes }
-    ensures stopped { (seed count : ℕ) (is_low_stopped : Bool) (readings : List ℕ) (asks : List (ℕ × ℕ)) (bytes : List ℕ) (opens : Openings)
+    ensures stopped { (seed count : ℕ) (is_low_stopped : Bool) (readings : List ℕ) (asks : List (ℕ × ℕ))
+        (bytes : List ℕ) (opens : Openings)
         → IsStoppedRecord seed count is_low_stopped readings asks bytes → ReplaysToItself opens bytes }
 {}

@@ -101,7 +101,8 @@ impl<L: WaitLowEnd> LowHalf<L> {
     pub fn next_frame(&mut self, into: &mut Frame) -> bool
         requires at { (made : List Made) × LowRests L.stands L.shape self.old made }
         ensures offer { (made : List Made) → LowRests L.stands L.shape self.old made
-            → (left : List Item) × LowAt L.stands L.shape self.new left made × IsOffer self.new (offered result into.new) left }
+            → (left : List Item) × LowAt L.stands L.shape self.new left made
+            × IsOffer self.new (offered result into.new) left }
         ensures lawful { IfSome (offered result into.new) IsLawful }
         ensures process { self.new.process ≡ self.old.process }
         ensures ends { self.new.ends ≡ self.old.ends }
@@ -132,7 +133,8 @@ impl<L: WaitLowEnd> LowHalf<L> {
         requires order { last_of self.old.process ≤ moment }
         requires moment { moment ≤ 2 ^ 62 }
         ensures at { (made : List Made) (left : List Item) → LowAt L.stands L.shape self.old left made
-            → IsOffer self.old (offered comes frame.now) left → LowRests L.stands L.shape self.new (made_by generated_row result ∷ made) }
+            → IsOffer self.old (offered comes frame.now) left
+            → LowRests L.stands L.shape self.new (made_by generated_row result ∷ made) }
         ensures moment { result.moment ≡ moment }
         ensures arrival { arrival_of result.arrival ≡ arrival_in (offered comes frame.now) }
         ensures reply { IfSome result.look.reply IsLawfulReply }

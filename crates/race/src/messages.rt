@@ -30,7 +30,8 @@ pub fn put_hello(row: &SessionRow, into: &mut Frame)
 /// Puts the DATA of the next message that a generator has left into `into`, and says whether there is
 /// one. The room is for its bytes.
 pub fn next_message(script: &mut Generator, body: &mut Body, into: &mut Frame) -> bool
-    ensures message { result ≡ true → (x : Item) × (into.new ≡ data_frame x) × (messages_in script.old ≡ x ∷ messages_in script.new) }
+    ensures message { result ≡ true → (x : Item) × (into.new ≡ data_frame x)
+        × (messages_in script.old ≡ x ∷ messages_in script.new) }
     ensures none { result ≡ false → (messages_in script.old ≡ []) × (messages_in script.new ≡ []) }
     ensures lawful { result ≡ true → IsLawful into.new }
 {

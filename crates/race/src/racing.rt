@@ -67,21 +67,26 @@ fn race_halves<
     requires place { low_place low.ends.0 ≡ high_place high.ends.0 }
     requires shape { high_shape high.ends.0 ≡ shape_of_row generated_row }
     requires count { low.count ≡ high.count }
-    ensures record { IfOk result (λ end. end.low_stopped ≡ false → end.high_stopped ≡ false → (bytes readings : List ℕ) × (asks : List (ℕ × ℕ))
+    ensures record { IfOk result (λ end. end.low_stopped ≡ false → end.high_stopped ≡ false → (bytes readings : List ℕ)
+        × (asks : List (ℕ × ℕ))
         × Written end.write_failed (O.written out.old) (O.written out.new) (O.faults out.old) (O.faults out.new) bytes
         × Draws (K.reads low_clock.old) (K.reads low_clock.new) readings
         × Grows (G.asked low_gate.old) (G.asked low_gate.new) asks
         × IsRaceRecord low.entry.seed high.entry.count high.entry.times.items readings asks bytes) }
-    ensures cut_short { IfOk result (λ end. (end.low_stopped ≡ true) ⊎ (end.high_stopped ≡ true) → (bytes readings : List ℕ) × (asks : List (ℕ × ℕ))
+    ensures cut_short { IfOk result (λ end. (end.low_stopped ≡ true) ⊎ (end.high_stopped ≡ true)
+        → (bytes readings : List ℕ) × (asks : List (ℕ × ℕ))
         × Written end.write_failed (O.written out.old) (O.written out.new) (O.faults out.old) (O.faults out.new) bytes
         × Draws (K.reads low_clock.old) (K.reads low_clock.new) readings
         × Grows (G.asked low_gate.old) (G.asked low_gate.new) asks
         × IsStoppedRecord low.entry.seed low.entry.count end.low_stopped readings asks bytes) }
     ensures disks { IfOk result (λ end. end.low_stopped ≡ false → end.high_stopped ≡ false
         → AreRaceDisks low.entry.seed high.entry.count end.low.bytes end.high.bytes end.recv.bytes) }
-    ensures low_stopped { IfOk result (λ end. CountsStop end.low_stopped (G.stops low_gate.old) (G.stops low_gate.new)) }
-    ensures high_stopped { IfOk result (λ end. CountsStop end.high_stopped (H.stops high_gate.old) (H.stops high_gate.new)) }
-    ensures asked_high { IfOk result (λ end. AsksHigh high.entry.count end.high_stopped (H.asked high_gate.old) (H.asked high_gate.new) end.recv.bytes) }
+    ensures low_stopped { IfOk result (λ end. CountsStop end.low_stopped (G.stops low_gate.old)
+        (G.stops low_gate.new)) }
+    ensures high_stopped { IfOk result (λ end. CountsStop end.high_stopped (H.stops high_gate.old)
+        (H.stops high_gate.new)) }
+    ensures asked_high { IfOk result (λ end. AsksHigh high.entry.count end.high_stopped (H.asked high_gate.old)
+        (H.asked high_gate.new) end.recv.bytes) }
     ensures nothing { OnErr result (out.new ≡ out.old) }
 {
     let mut tape = Tape::new(&low.row);
@@ -141,13 +146,15 @@ pub fn race_with<
     requires turn { CanTurn times.now count }
     // Without a stopped worker: all of the record was written, or a prefix of it where a write failed. The
     // low worker's gate was asked before each of its looks, with the messages acknowledged.
-    ensures record { IfOk result (λ end. end.low_stopped ≡ false → end.high_stopped ≡ false → (bytes readings : List ℕ) × (asks : List (ℕ × ℕ))
+    ensures record { IfOk result (λ end. end.low_stopped ≡ false → end.high_stopped ≡ false → (bytes readings : List ℕ)
+        × (asks : List (ℕ × ℕ))
         × Written end.write_failed (O.written out.old) (O.written out.new) (O.faults out.old) (O.faults out.new) bytes
         × Draws (K.reads low_clock.old) (K.reads low_clock.new) readings
         × Grows (G.asked low_gate.old) (G.asked low_gate.new) asks
         × IsRaceRecord seed count times.now readings asks bytes) }
     // With one: the same of the record of the looks made.
-    ensures cut_short { IfOk result (λ end. (end.low_stopped ≡ true) ⊎ (end.high_stopped ≡ true) → (bytes readings : List ℕ) × (asks : List (ℕ × ℕ))
+    ensures cut_short { IfOk result (λ end. (end.low_stopped ≡ true) ⊎ (end.high_stopped ≡ true)
+        → (bytes readings : List ℕ) × (asks : List (ℕ × ℕ))
         × Written end.write_failed (O.written out.old) (O.written out.new) (O.faults out.old) (O.faults out.new) bytes
         × Draws (K.reads low_clock.old) (K.reads low_clock.new) readings
         × Grows (G.asked low_gate.old) (G.asked low_gate.new) asks
@@ -155,10 +162,13 @@ pub fn race_with<
     ensures disks { IfOk result (λ end. end.low_stopped ≡ false → end.high_stopped ≡ false
         → AreRaceDisks seed count end.low.bytes end.high.bytes end.recv.bytes) }
     ensures failed { IfOk result (λ end. end.write_failed ≡ true → Rose (O.faults out.old) (O.faults out.new)) }
-    ensures low_stopped { IfOk result (λ end. CountsStop end.low_stopped (G.stops low_gate.old) (G.stops low_gate.new)) }
-    ensures high_stopped { IfOk result (λ end. CountsStop end.high_stopped (H.stops high_gate.old) (H.stops high_gate.new)) }
+    ensures low_stopped { IfOk result (λ end. CountsStop end.low_stopped (G.stops low_gate.old)
+        (G.stops low_gate.new)) }
+    ensures high_stopped { IfOk result (λ end. CountsStop end.high_stopped (H.stops high_gate.old)
+        (H.stops high_gate.new)) }
     // The high worker's gate is asked before each look, with the messages that the receiver has.
-    ensures asked_high { IfOk result (λ end. AsksHigh count end.high_stopped (H.asked high_gate.old) (H.asked high_gate.new) end.recv.bytes) }
+    ensures asked_high { IfOk result (λ end. AsksHigh count end.high_stopped (H.asked high_gate.old)
+        (H.asked high_gate.new) end.recv.bytes) }
     ensures nothing { OnErr result (out.new ≡ out.old) }
 {
     let row = generated_row();

@@ -63,18 +63,23 @@ pub fn run_halves<
     requires none_removed { removed_of high.old.process ≡ 0 }
     ensures low { IfOk result (λ raced. (made : List Made) × LowRests L.stands L.shape low.new made
         × Draws (K.reads low_clock.old) (K.reads low_clock.new) (moments_of made)
-        × Prints tape.old tape.new (O.written out.old) (O.written out.new) (O.faults out.old) (O.faults out.new) (looks_text generated_row (record_of made))
+        × Prints tape.old tape.new (O.written out.old) (O.written out.new) (O.faults out.old) (O.faults out.new)
+        (looks_text generated_row (record_of made))
         × Grows (G.asked low_gate.old) (G.asked low_gate.new) (asks_in_run raced.low_stopped (acks_of made))
         × AllByRecursion (IsReadable generated_row) (record_of made)) }
     ensures low_ended { IfOk result (λ raced. raced.low_stopped ≡ false → IsLowDone low.new) }
-    ensures low_stopped { IfOk result (λ raced. CountsStop raced.low_stopped (G.stops low_gate.old) (G.stops low_gate.new)) }
+    ensures low_stopped { IfOk result (λ raced. CountsStop raced.low_stopped (G.stops low_gate.old)
+        (G.stops low_gate.new)) }
     ensures low_place { IfOk result (λ _. L.place low.new.ends ≡ L.place low.old.ends) }
     ensures seed { IfOk result (λ _. low.new.seed ≡ low.old.seed) }
     ensures low_count { IfOk result (λ _. low.new.count ≡ low.old.count) }
     ensures high { IfOk result (λ _. (h : High) × H.stands high.new.ends new_low h) }
-    ensures high_ended { IfOk result (λ raced. raced.high_stopped ≡ false → HighAt H.stands false high.new × (high.new.count ≤ removed_of high.new.process)) }
-    ensures high_stopped { IfOk result (λ raced. CountsStop raced.high_stopped (I.stops high_gate.old) (I.stops high_gate.new)) }
-    ensures high_asks { IfOk result (λ raced. AsksHigh high.new.count raced.high_stopped (I.asked high_gate.old) (I.asked high_gate.new) (recv_disk high.new.receiver).bytes) }
+    ensures high_ended { IfOk result (λ raced. raced.high_stopped ≡ false → HighAt H.stands false high.new
+        × (high.new.count ≤ removed_of high.new.process)) }
+    ensures high_stopped { IfOk result (λ raced. CountsStop raced.high_stopped (I.stops high_gate.old)
+        (I.stops high_gate.new)) }
+    ensures high_asks { IfOk result (λ raced. AsksHigh high.new.count raced.high_stopped (I.asked high_gate.old)
+        (I.asked high_gate.new) (recv_disk high.new.receiver).bytes) }
     ensures high_place { IfOk result (λ _. H.place high.new.ends ≡ H.place high.old.ends) }
     ensures high_shape { IfOk result (λ _. H.shape high.new.ends ≡ H.shape high.old.ends) }
     ensures high_count { IfOk result (λ _. high.new.count ≡ high.old.count) }

@@ -1,5 +1,6 @@
 // The record of a race on its way to a sink.
-ghost use Rattle.std.specs.Prelude.{◌≡◌, ◌+◌, ◌<◌, ◌≤◌, ℕ, Option, List, [], ◌++◌, length, decimal, IfSome, true, false};
+ghost use Rattle.std.specs.Prelude.{◌≡◌, ◌+◌, ◌<◌, ◌≤◌, ℕ, Option, List, [], ◌++◌, length, decimal, IfSome, true};
+ghost use Rattle.std.specs.Prelude.{false};
 ghost use Rattle.pump_core.specs.ReplyFrames.{IsLawfulReply};
 ghost use Rattle.low_process.specs.Looks.{arrival_of};
 ghost use Rattle.relay_threads.specs.Records.{Made, was_full as full_before};
@@ -104,7 +105,8 @@ impl Tape {
 
     /// Writes what is held, unless a write failed before.
     fn flush<O: Sink>(&mut self, out: &mut O)
-        ensures stays { Stays self.old self.new (O.written out.old) (O.written out.new) (O.faults out.old) (O.faults out.new) }
+        ensures stays { Stays self.old self.new (O.written out.old) (O.written out.new) (O.faults out.old)
+            (O.faults out.new) }
         ensures empty { held_of self.new ≡ [] }
         ensures row { row_in self.new ≡ row_in self.old }
     {
@@ -123,7 +125,8 @@ impl Tape {
 
     /// Writes what is held where the lines of a look may not fit behind it.
     fn make_room<O: Sink>(&mut self, out: &mut O)
-        ensures stays { Stays self.old self.new (O.written out.old) (O.written out.new) (O.faults out.old) (O.faults out.new) }
+        ensures stays { Stays self.old self.new (O.written out.old) (O.written out.new) (O.faults out.old)
+            (O.faults out.new) }
         ensures room { length (held_of self.new) + 2700 ≤ 8192 }
         ensures row { row_in self.new ≡ row_in self.old }
     {
@@ -136,8 +139,10 @@ impl Tape {
     pub fn open(&mut self)
         requires row { row_in self.old ≡ generated_row }
         requires empty { held_of self.old ≡ [] }
-        ensures prints { (written : Option (List ℕ)) (faults : ℕ) → Prints self.old self.new written written faults faults opening_text }
-        ensures reads { IsLine (opening_line generated_row race_opening) (line_spelling (opening_line generated_row race_opening)) }
+        ensures prints { (written : Option (List ℕ)) (faults : ℕ)
+            → Prints self.old self.new written written faults faults opening_text }
+        ensures reads { IsLine (opening_line generated_row race_opening)
+            (line_spelling (opening_line generated_row race_opening)) }
         ensures row { row_in self.new ≡ row_in self.old }
     {
         append_opening(&self.row, 0, false, &mut self.held);
@@ -151,8 +156,10 @@ impl Tape {
         requires reply { IfSome made.now.look.reply IsLawfulReply }
         requires plain { IsPlain (made_by generated_row made.now) }
         ensures prints { (before : List Made) → was_full ≡ full_before before
-            → Prints self.old self.new (O.written out.old) (O.written out.new) (O.faults out.old) (O.faults out.new) (look_lines before (made_by generated_row made.now)) }
-        ensures reads { (before : List Made) → was_full ≡ full_before before → ReadsBack before (made_by generated_row made.now) }
+            → Prints self.old self.new (O.written out.old) (O.written out.new) (O.faults out.old) (O.faults out.new)
+            (look_lines before (made_by generated_row made.now)) }
+        ensures reads { (before : List Made) → was_full ≡ full_before before
+            → ReadsBack before (made_by generated_row made.now) }
         ensures row { row_in self.new ≡ row_in self.old }
     {
         if !is_recorded(made, was_full) {
@@ -165,7 +172,8 @@ impl Tape {
     /// Prints a comment of a word and a number.
     fn number<O: Sink>(&mut self, out: &mut O, word: &[u8], number: u64)
         requires short { length word.now ≤ 40 }
-        ensures prints { Prints self.old self.new (O.written out.old) (O.written out.new) (O.faults out.old) (O.faults out.new) (number_line word.now number) }
+        ensures prints { Prints self.old self.new (O.written out.old) (O.written out.new) (O.faults out.old)
+            (O.faults out.new) (number_line word.now number) }
     {
         self.make_room(out);
         put_numbered(&mut self.held, word, number);
@@ -174,7 +182,8 @@ impl Tape {
     /// Prints the times in turn as comments.
     fn times<O: Sink>(&mut self, out: &mut O, times: &[u32], count: u32)
         requires some { 0 < length times.now }
-        ensures prints { Prints self.old self.new (O.written out.old) (O.written out.new) (O.faults out.old) (O.faults out.new) (time_lines (turns times.now count)) }
+        ensures prints { Prints self.old self.new (O.written out.old) (O.written out.new) (O.faults out.old)
+            (O.faults out.new) (time_lines (turns times.now count)) }
     {
         'times: for number in 0..count {
             let time = times[number as usize % times.len()];
@@ -185,8 +194,10 @@ impl Tape {
     /// Prints the comments at the end of a record.
     fn end<O: Sink>(&mut self, out: &mut O, ending: &Ending)
         requires some { 0 < length ending.now.times.now }
-        ensures prints { Prints self.old self.new (O.written out.old) (O.written out.new) (O.faults out.old) (O.faults out.new)
-            (end_lines (turns ending.now.times.now ending.now.count) ending.now.received ending.now.accepted ending.now.removed) }
+        ensures prints { Prints self.old self.new (O.written out.old) (O.written out.new) (O.faults out.old)
+            (O.faults out.new)
+            (end_lines (turns ending.now.times.now ending.now.count) ending.now.received ending.now.accepted
+            ending.now.removed) }
     {
         self.times(out, ending.times, ending.count);
         self.number(out, b"took", ending.received);
@@ -196,7 +207,8 @@ impl Tape {
 
     /// Writes all that is held. True where a write failed.
     fn shut<O: Sink>(&mut self, out: &mut O) -> bool
-        ensures written { Shuts self.old result (O.written out.old) (O.written out.new) (O.faults out.old) (O.faults out.new) }
+        ensures written { Shuts self.old result (O.written out.old) (O.written out.new) (O.faults out.old)
+            (O.faults out.new) }
     {
         self.flush(out);
         self.has_failed
@@ -206,9 +218,12 @@ impl Tape {
     /// held. True where a write failed.
     pub fn close<O: Sink>(&mut self, out: &mut O, is_stopped: bool, ending: &Ending) -> bool
         requires some { 0 < length ending.now.times.now }
-        ensures ended { is_stopped ≡ false → Closes self.old result (O.written out.old) (O.written out.new) (O.faults out.old) (O.faults out.new)
-            (end_lines (turns ending.now.times.now ending.now.count) ending.now.received ending.now.accepted ending.now.removed) }
-        ensures stopped { is_stopped ≡ true → Closes self.old result (O.written out.old) (O.written out.new) (O.faults out.old) (O.faults out.new) [] }
+        ensures ended { is_stopped ≡ false
+            → Closes self.old result (O.written out.old) (O.written out.new) (O.faults out.old) (O.faults out.new)
+            (end_lines (turns ending.now.times.now ending.now.count) ending.now.received ending.now.accepted
+            ending.now.removed) }
+        ensures stopped { is_stopped ≡ true
+            → Closes self.old result (O.written out.old) (O.written out.new) (O.faults out.old) (O.faults out.new) [] }
     {
         if is_stopped {
             return self.shut(out);

@@ -39,10 +39,10 @@ module _ (row : SessionRow) (fits : FitsRow row) (letter : ℕ) (disk : List ℕ
   abbrev area : List ℕ
   area = take 80 disk
 
-  abbrev front : List ℕ
-  front = 78 ∷ 80 ∷ 68 ∷ 49 ∷ letter ∷ has.version ∷ []
+  abbrev prefix : List ℕ
+  prefix = 78 ∷ 80 ∷ 68 ∷ 49 ∷ letter ∷ has.version ∷ []
 
-  byte : (i : ℕ) → i < 6 → get_or area i 0 ≡ get_or front i 0
+  byte : (i : ℕ) → i < 6 → get_or area i 0 ≡ get_or prefix i 0
   byte i lt = get_or-take 80 disk i 0 (omega (arith, lt)) ∙ sym (get_or-take 32 disk i 0 (omega (arith, lt))) ∙ sym (get_or-take 6 (take 32 disk) i 0 lt) ∙ ap (λ (l : List ℕ). get_or l i 0) has.mark
 
   number : (i : ℕ) → i < 12 → get_or area (8 + i) 0 ≡ get_or S i 0
@@ -50,12 +50,12 @@ module _ (row : SessionRow) (fits : FitsRow row) (letter : ℕ) (disk : List ℕ
       get_or-take 80 disk (8 + i) 0 (omega (arith, lt)) ∙ sym (get_or-take 32 disk (8 + i) 0 (omega (arith, lt))) ∙ sym (get_or-drop 8 (take 32 disk) i 0) ∙ sym (get_or-take 12 (drop 8 (take 32 disk)) i 0 lt)
       ∙ ap (λ (l : List ℕ). get_or l i 0) has.numbers
 
-  mark_of : word_at front 0 ≡ 1313883185
+  mark_of : word_at prefix 0 ≡ 1313883185
   unfolding word_at
   mark_of = refl
 
   mark : word_at area 0 ≡ 1313883185
-  mark = word_at-agree area 0 front 0 (λ i lt. let e : i ≡ 0 + i = omega arith in subst (λ j. get_or area j 0 ≡ get_or front j 0) e (byte i (omega (arith, lt)))) ∙ mark_of
+  mark = word_at-agree area 0 prefix 0 (λ i lt. let e : i ≡ 0 + i = omega arith in subst (λ j. get_or area j 0 ≡ get_or prefix j 0) e (byte i (omega (arith, lt)))) ∙ mark_of
 
   word : (p : ℕ) (n : ℕ) → p + 4 ≤ 12 → n < 2 ^ 32 → big_bytes 4 n ≡ take 4 (drop p S) → word_at area (8 + p) ≡ n
   word p n le small is =

@@ -32,8 +32,8 @@ marked_write s x d four long =
     let cut : drop 4 (a ++ x ++ r) ≡ drop 4 a ++ x ++ r = drop-append-le 4 (a ++ x) r (omega (arith, length-append a x, size)) ∙ ap (λ (l : List ℕ). l ++ r) (drop-append-le 4 a x size) in
     let rest : drop 4 a ≡ take (s - 4) (drop 4 d) = ap (λ j. drop 4 (take j d)) (sym e) ∙ drop-take 4 (s - 4) d in
     let up : suc (suc (suc (suc (s - 4)))) ≡ s = omega (arith, four) in
-    let front : 78 ∷ 80 ∷ 68 ∷ 49 ∷ drop 4 a ≡ take s (marked d) = ap (λ (l : List ℕ). 78 ∷ 80 ∷ 68 ∷ 49 ∷ l) rest ∙ ap (λ j. take j (marked d)) up in
-    ap (λ (l : List ℕ). 78 ∷ 80 ∷ 68 ∷ 49 ∷ l) cut ∙ (λ i. front i ++ x ++ sym (marked_drop (s + length x) d (omega (arith, four))) i)
+    let prefix : 78 ∷ 80 ∷ 68 ∷ 49 ∷ drop 4 a ≡ take s (marked d) = ap (λ (l : List ℕ). 78 ∷ 80 ∷ 68 ∷ 49 ∷ l) rest ∙ ap (λ j. take j (marked d)) up in
+    ap (λ (l : List ℕ). 78 ∷ 80 ∷ 68 ∷ 49 ∷ l) cut ∙ (λ i. prefix i ++ x ++ sym (marked_drop (s + length x) d (omega (arith, four))) i)
 
 marked_messages : (row : SessionRow) (n : ℕ) (ms : List (List ℕ)) (d : List ℕ) → 4 ≤ length d → marked (with_messages row n ms d) ≡ with_messages row n ms (marked d)
 marked_messages row n [] d long = refl

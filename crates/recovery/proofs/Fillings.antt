@@ -15,8 +15,8 @@ use Rattle.recovery.proofs.Slots.{slot_length}
 
 take_both : (a b : ℕ) (l : List ℕ) → take (a + b) l ≡ take a l ++ take b (drop a l)
 take_both a b l =
-    let front : take a (take (a + b) l) ≡ take a l = take-take a (a + b) l (omega arith) in
-    sym (take-append-drop a (take (a + b) l)) ∙ (λ i. front i ++ drop-take a b l i)
+    let prefix : take a (take (a + b) l) ≡ take a l = take-take a (a + b) l (omega arith) in
+    sym (take-append-drop a (take (a + b) l)) ∙ (λ i. prefix i ++ drop-take a b l i)
 
 -- one piece more of what is copied
 pub piece_more : (old src : List ℕ) (at to done size : ℕ) (mid new piece : List ℕ) → to ≤ length old → at + done + size ≤ length src → IsWritten old to (take done (drop at src)) mid

@@ -22,8 +22,8 @@ small_is row role size bytes mark disk is small some read value =
     (λ i lt. get_or-take 80 disk (0 + i) 0 (omega arith) ∙ sym (get_or-take 4 disk (0 + i) 0 (omega arith)) ∙ ap (λ (l : List ℕ). get_or l (0 + i) 0) (sym read)) ∙ sym value in
     rw (one, two) (λ i. Some (NotABuffer (sym is i) (same i)))
 
-pub front_is : (row : SessionRow) (letter : ℕ) (area disk now : List ℕ) → area ≡ take 80 (drop 0 now) → now ≡ disk → HasHeader row letter (take 32 area) → HasHeader row letter (take 32 disk)
-front_is row letter area disk now read same has =
+pub prefix_is : (row : SessionRow) (letter : ℕ) (area disk now : List ℕ) → area ≡ take 80 (drop 0 now) → now ≡ disk → HasHeader row letter (take 32 area) → HasHeader row letter (take 32 disk)
+prefix_is row letter area disk now read same has =
     subst (HasHeader row letter) (ap (λ (l : List ℕ). take 32 l) read ∙ take-take 32 80 now (omega arith) ∙ ap (λ (l : List ℕ). take 32 l) same) has
 
 pick : (b : Bool) (x y : Option Why) (w : Why) → (if b then or_else x y else Some w) ≡ None → y ≡ None

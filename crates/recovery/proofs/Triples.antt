@@ -45,18 +45,18 @@ removed_order true false B R le due = (omega arith, le)
 removed_order false removing B R le due = (omega arith, le)
 
 -- the receiver's list, with the packet or without, is a prefix
-record IsFront (ps qs : List (List ℕ)) : Type 0 where
+record IsPrefix (ps qs : List (List ℕ)) : Type 0 where
   pub length' : length ps ≤ length qs
   pub same : (n : ℕ) → n < length ps → get_or ps n [] ≡ get_or qs n []
 
-front_of : (ps qs : List (List ℕ)) → IsPrefixOf ps qs → IsFront ps qs
-front_of ps qs (rest, is) = record {
+prefix_of : (ps qs : List (List ℕ)) → IsPrefixOf ps qs → IsPrefix ps qs
+prefix_of ps qs (rest, is) = record {
   length' = omega (arith, ap length is, length-append ps rest);
   same = λ n lt. sym (get_or_append_left ps rest [] n lt) ∙ ap (λ (l : List (List ℕ)). get_or l n []) is;
 }
 
-front_more : (ps qs : List (List ℕ)) (p : List ℕ) → IsFront ps qs → slice_get qs (length ps) ≡ Some p → IsFront (ps ++ p ∷ []) qs
-front_more ps qs p f at = record {
+prefix_more : (ps qs : List (List ℕ)) (p : List ℕ) → IsPrefix ps qs → slice_get qs (length ps) ≡ Some p → IsPrefix (ps ++ p ∷ []) qs
+prefix_more ps qs p f at = record {
   length' = let t = slice_get_within qs (length ps) p at in omega (arith, t, length-append ps (p ∷ []));
   same = λ n lt. elim (cases_lt n (length ps)) [
     | inl early ↦ get_or_append_left ps (p ∷ []) [] n early ∙ f.same n early
@@ -66,12 +66,12 @@ front_more ps qs p f at = record {
   ];
 }
 
-front_kept : (k taking : Bool) (packet : Option (List ℕ)) (received accepted : List (List ℕ)) → IsFront received accepted → IsNext accepted received packet taking
-    → IsFront (kept_with k (if taking then packet else None) received) accepted
-front_kept true true (Some p) received accepted f next = front_more received accepted p f next
-front_kept true true None received accepted f next = f
-front_kept true false packet received accepted f next = f
-front_kept false taking packet received accepted f next = f
+prefix_kept : (k taking : Bool) (packet : Option (List ℕ)) (received accepted : List (List ℕ)) → IsPrefix received accepted → IsNext accepted received packet taking
+    → IsPrefix (kept_with k (if taking then packet else None) received) accepted
+prefix_kept true true (Some p) received accepted f next = prefix_more received accepted p f next
+prefix_kept true true None received accepted f next = f
+prefix_kept true false packet received accepted f next = f
+prefix_kept false taking packet received accepted f next = f
 
 -- ---- the refusals ----
 
@@ -118,9 +118,9 @@ each_triple row w size stored removed taken low high recv lawful r s =
     let below = b.within.below in
     let above : E ≤ w.removed + w.capacity = kept_fits stored w.storing w.capacity w.removed w.low_hand w.accepted some below b.within.above b.store in
     let order = removed_order removed w.removing w.removed (length w.received) d.removed (λ is. d.due (b.removal.cause is)) in
-    let front : IsFront rec w.accepted = front_kept taken w.taking w.packet w.received w.accepted (front_of w.received w.accepted d.prefix) d.packet in
+    let prefix : IsPrefix rec w.accepted = prefix_kept taken w.taking w.packet w.received w.accepted (prefix_of w.received w.accepted d.prefix) d.packet in
     let taken' : length w.received ≤ R = kept_longer taken (taking_of w) w.received in
-    let reached : R ≤ length w.accepted = front.length' in
+    let reached : R ≤ length w.accepted = prefix.length' in
     let size_of : length (drop w.removed acc) ≡ E - w.removed = length-drop w.removed acc in
     let in_slot : (n : ℕ) → w.removed ≤ n → n < E → InSlot row n (get_or acc n []) low = λ n from to.
     let j = n - w.removed in
@@ -134,7 +134,7 @@ each_triple row w size stored removed taken low high recv lawful r s =
     let before : B ≤ R = omega (arith, down, taken') in
     let within : R ≤ E = omega (arith, reached, longer) in
     let slots : SlotsAgree row B R rec low = λ n from to.
-    subst (λ (x : List ℕ). InSlot row n x low) (kept_get stored w.storing w.accepted n (omega (arith, to, reached)) ∙ sym (front.same n to)) (in_slot n (omega (arith, from, up)) (omega (arith, to, reached, longer))) in
+    subst (λ (x : List ℕ). InSlot row n x low) (kept_get stored w.storing w.accepted n (omega (arith, to, reached)) ∙ sym (prefix.same n to)) (in_slot n (omega (arith, from, up)) (omega (arith, to, reached, longer))) in
     record {
       found = (ap (λ v. v.0) s.low_stands.value, ap (λ v. v.0) s.high_stands.value, ap (λ v. v.0) s.recv_stands.value);
       pump = pump_none row low high E B (low_none row fits E w.removed (drop w.removed acc) low small s.low_stands) (high_none row fits B high (omega (arith, down, taken', reached, longer, small)) s.high_stands) s.low_stands.value s.high_stands.value

@@ -3,16 +3,20 @@ use Rattle.std.specs.Prelude.{◌≡◌, ◌⊎◌, ℕ, ◌<◌, ◌≤◌, Lis
 use Rattle.pump_frame.specs.declared.row.SessionRow.{SessionRow}
 use Rattle.stable_buffer.specs.Stands.{InSlot}
 use Rattle.recovery.specs.declared.why.Why.{Why}
-use Rattle.recovery.specs.declared.why.Why.TheVariants.{Device, NotABuffer, WrongShape, BadRegister, Mismatch, BadSlot, Apart, Differs, NotEmpty, Small, TooLong}
+use Rattle.recovery.specs.declared.why.Why.TheVariants.{Device, NotABuffer, WrongShape, BadRegister, Mismatch, BadSlot}
+use Rattle.recovery.specs.declared.why.Why.TheVariants.{Apart, Differs, NotEmpty, Small, TooLong}
 
 -- the receiver's messages from `removed` to before `count` stand in low's slots
 abbrev pub SlotsAgree : SessionRow → ℕ → ℕ → List (List ℕ) → List ℕ → Type 0
-SlotsAgree row removed count messages low = (n : ℕ) → removed ≤ n → n < count → InSlot row n (slice_index_or messages n []) low
+SlotsAgree row removed count messages low = (n : ℕ) → removed ≤ n → n < count
+    → InSlot row n (slice_index_or messages n []) low
 
--- The receiver has fewer than are removed, or more than are accepted; or the least of its messages that stands otherwise in low's slot is this.
+-- The receiver has fewer than are removed, or more than are accepted; or the least of its messages that stands
+-- otherwise in low's slot is this.
 abbrev pub Disagrees : SessionRow → ℕ → ℕ → ℕ → List (List ℕ) → List ℕ → Why → Type 0
 Disagrees row removed count accepted messages low (Apart found bound) =
-    (found ≡ count) × (((count < removed) × (bound ≡ removed)) ⊎ ((removed ≤ count) × (accepted < count) × (bound ≡ accepted)))
+    (found ≡ count) × (((count < removed) × (bound ≡ removed)) ⊎ ((removed ≤ count) × (accepted < count)
+    × (bound ≡ accepted)))
 Disagrees row removed count accepted messages low (Differs n) =
     (removed ≤ count) × (count ≤ accepted) × (removed ≤ n) × (n < count) × SlotsAgree row removed n messages low
     × (InSlot row n (slice_index_or messages n []) low → ⊥)

@@ -13,7 +13,8 @@ use Rattle.high_receiver.specs.Receiving.{recv_disk, recv_is_open}
 use Rattle.high_receiver.specs.declared.receiver.Receiver.{Receiver}
 use Rattle.recovery.specs.Refusals.{refused_disk}
 use Rattle.recovery.specs.declared.why.Why.{Why}
-use Rattle.recovery.specs.declared.why.Why.TheVariants.{Device, NotABuffer, WrongShape, BadRegister, Mismatch, BadSlot, Apart, Differs, NotEmpty, Small, TooLong}
+use Rattle.recovery.specs.declared.why.Why.TheVariants.{Device, NotABuffer, WrongShape, BadRegister, Mismatch, BadSlot}
+use Rattle.recovery.specs.declared.why.Why.TheVariants.{Apart, Differs, NotEmpty, Small, TooLong}
 use Rattle.recovery.specs.declared.pump.Opened.{Opened}
 use Rattle.recovery.specs.declared.pump.NotOpened.{NotOpened}
 
@@ -64,7 +65,8 @@ abbrev pub high_left : {D : Type 0} → Result (Opened D) (NotOpened D) → D
 high_left (Ok opened) = high_disk opened.high
 high_left (Err refused) = refused.high
 
--- The disk was called. It failed only where its count rose; by the plan never where it wasn't armed, and always where it was. After that it isn't armed.
+-- The disk was called. It failed only where its count rose; by the plan never where it wasn't armed, and always where
+-- it was. After that it isn't armed.
 pub record Calls {D : Type 0} (m : Meaning D) (old new : D) (failed : Bool) : Type 0 where
   pub counts : m.count old ≤ m.count new
   pub rose : failed ≡ true → Rose (m.count old) (m.count new)
@@ -87,7 +89,8 @@ CallsHigh m row low old new failed =
 abbrev pub GivesSlot : {D : Type 0} → Meaning D → SessionRow → ℕ → D → Type 0
 GivesSlot m row n low = (m.armed low ≡ false) × (length_at (m.reading low) (slot_of row n) ≤ row.message)
 
--- The receiver's disk was called, or the receiver is as it was: the latter exactly where low's disk gave no message of this slot to compare.
+-- The receiver's disk was called, or the receiver is as it was: the latter exactly where low's disk gave no message
+-- of this slot to compare.
 abbrev pub CallsReceiver : {D : Type 0} → Meaning D → SessionRow → ℕ → D → Receiver D → Receiver D → Type 0
 CallsReceiver m row n low old new =
     (Calls m (recv_disk old) (recv_disk new) (not (recv_is_open new)) × (m.tells_plan → GivesSlot m row n low))

@@ -1,5 +1,6 @@
 -- How the messages of an opened pump are dealt out.
-use Rattle.std.specs.Prelude.{◌≡◌, ℕ, ◌+◌, ◌-◌, ◌<◌, ◌≤◌, ◌==◌, nat_lt, if◌then◌else◌, List, [], ◌∷◌, take, drop, length, slice_get, slice_index_or, Option, Some, None}
+use Rattle.std.specs.Prelude.{◌≡◌, ℕ, ◌+◌, ◌-◌, ◌<◌, ◌≤◌, ◌==◌, nat_lt, if◌then◌else◌, List, [], ◌∷◌, take, drop}
+use Rattle.std.specs.Prelude.{length, slice_get, slice_index_or, Option, Some, None}
 use Rattle.std.specs.List.{All}
 use Rattle.pump_frame.specs.declared.frame.Item.{Item}
 use Rattle.pump_frame.specs.declared.row.SessionRow.{SessionRow}
@@ -22,7 +23,8 @@ passing capacity items = take (capacity - 2) (drop 1 items)
 
 -- a passage in which nothing was forwarded has these in it
 abbrev pub Fills : (Low → High → Type 0) → (Low → High → Type 0) → List Item → Type 0
-Fills before after items = (l : Low) (h : High) → before l h → l.forwarded ≡ [] → after (record l { forwarded = items }) h
+Fills before after items = (l : Low) (h : High) → before l h → l.forwarded ≡ []
+    → after (record l { forwarded = items }) h
 
 -- messages stand in their slots from number b on
 abbrev pub InSlots : SessionRow → ℕ → List (List ℕ) → List ℕ → Type 0
@@ -30,8 +32,10 @@ InSlots row b messages disk = (i : ℕ) → i < length messages → InSlot row (
 
 -- ---- what an opened pump has, whatever is on its disks ----
 
--- messages with the numbers from `removed` to before `next` are dealt out; they are no more than there are places, and none is longer than the row's
-pub record IsDealt (row : SessionRow) (removed next : ℕ) (messages : List (List ℕ)) (high low : Option Item) (before after : Low → High → Type 0) : Type 0 where
+-- messages with the numbers from `removed` to before `next` are dealt out; they are no more than there are places,
+-- and none is longer than the row's
+pub record IsDealt (row : SessionRow) (removed next : ℕ) (messages : List (List ℕ)) (high low : Option Item)
+    (before after : Low → High → Type 0) : Type 0 where
   pub count : removed + length messages ≡ next
   pub places : next ≤ removed + row.capacity
   pub short : All (λ message. length message ≤ row.message) messages
@@ -43,7 +47,8 @@ abbrev pub number_of : Option Item → Option ℕ
 number_of None = None
 number_of (Some x) = Some x.number
 
--- the first message that isn't removed is in the high hand, and the last one of all in the low hand exactly where all places are taken
+-- the first message that isn't removed is in the high hand, and the last one of all in the low hand exactly where all
+-- places are taken
 pub record HandsFit (capacity removed next : ℕ) (high low : Option Item) : Type 0 where
   pub first : number_of high ≡ (if nat_lt removed next then Some removed else None)
   pub last : number_of low ≡ (if next == removed + capacity then Some (next - 1) else None)

@@ -1,5 +1,6 @@
 -- The three disks of a session as a crash may leave them, and the world that they come from.
-use Rattle.std.specs.Prelude.{◌≡◌, ℕ, ◌+◌, ◌^◌, ◌<◌, ◌≤◌, Bool, true, false, if◌then◌else◌, ◌&&◌, List, [], ◌∷◌, ◌++◌, length, drop, Option, Some, None}
+use Rattle.std.specs.Prelude.{◌≡◌, ℕ, ◌+◌, ◌^◌, ◌<◌, ◌≤◌, Bool, true, false, if◌then◌else◌, ◌&&◌, List, [], ◌∷◌, ◌++◌}
+use Rattle.std.specs.Prelude.{length, drop, Option, Some, None}
 use Rattle.pump_core.specs.World.{World}
 use Rattle.pump_core.specs.Lawful.{IsLawful}
 use Rattle.stable_buffer.specs.Stands.{LowStands, HighStands}
@@ -45,7 +46,8 @@ pub record IsRow (row : SessionRow) (w : World) (size : ℕ) (recv : List ℕ) :
   pub count : length (accepted_if w true) ≤ 2 ^ 48
   pub room : (value_of recv).1 ≤ size
 
--- nothing is refused, neither of one disk nor where they are compared, and the counts found are these: E accepted, B removed, R received
+-- nothing is refused, neither of one disk nor where they are compared, and the counts found are these: E accepted, B
+-- removed, R received
 pub record Opens (row : SessionRow) (size E B R : ℕ) (received : List (List ℕ)) (low high recv : List ℕ) : Type 0 where
   pub found : ((value_of low).0 ≡ E) × ((value_of high).0 ≡ B) × ((value_of recv).0 ≡ R)
   pub pump : refused_pump row low high ≡ None
@@ -56,8 +58,10 @@ pub record Opens (row : SessionRow) (size E B R : ℕ) (received : List (List �
 
 -- Disks of one lawful world, each with its unfinished call kept or not, are refused for nothing and agree.
 abbrev pub EachTripleOpens : Type 0
-EachTripleOpens = (row : SessionRow) (w : World) (size : ℕ) (stored removed taken : Bool) (low high recv : List ℕ) → IsLawful w → IsRow row w size recv → Stand row w stored removed taken low high recv
-    → Opens row size (length (accepted_if w stored)) (removed_if w removed) (length (received_if w taken)) (received_if w taken) low high recv
+EachTripleOpens = (row : SessionRow) (w : World) (size : ℕ) (stored removed taken : Bool) (low high recv : List ℕ)
+    → IsLawful w → IsRow row w size recv → Stand row w stored removed taken low high recv
+    → Opens row size (length (accepted_if w stored)) (removed_if w removed) (length (received_if w taken))
+    (received_if w taken) low high recv
 
 -- three readings that stand for a lawful world of the row as it is; its counts and its records fit the disks
 pub record StandForWorld (row : SessionRow) (w : World) (size : ℕ) (low high recv : List ℕ) : Type 0 where
@@ -71,5 +75,6 @@ pub record StandForWorld (row : SessionRow) (w : World) (size : ℕ) (low high r
 
 -- Disks that stand for one lawful world are refused for nothing.
 abbrev pub EachWorldOpens : Type 0
-EachWorldOpens = (row : SessionRow) (w : World) (size : ℕ) (low high recv : List ℕ) → IsLawfulRow row → row.id < 2 ^ 32 → StandForWorld row w size low high recv
+EachWorldOpens = (row : SessionRow) (w : World) (size : ℕ) (low high recv : List ℕ) → IsLawfulRow row → row.id < 2 ^ 32
+    → StandForWorld row w size low high recv
     → Opens row size (length w.accepted) w.removed (length w.received) w.received low high recv

@@ -1,5 +1,6 @@
 -- Moving the disks of a session to three new ones, for another row.
-use Rattle.std.specs.Prelude.{◌≡◌, ◌⊎◌, ℕ, ◌++◌, IfErr, take, ◌+◌, ◌-◌, ◌<◌, ◌≤◌, ◌&&◌, nat_lt, not, if◌then◌else◌, Bool, true, false, List, [], ◌∷◌, length, drop, Option, Some, None, Result, Ok, Err}
+use Rattle.std.specs.Prelude.{◌≡◌, ◌⊎◌, ℕ, ◌++◌, IfErr, take, ◌+◌, ◌-◌, ◌<◌, ◌≤◌, ◌&&◌, nat_lt, not, if◌then◌else◌}
+use Rattle.std.specs.Prelude.{Bool, true, false, List, [], ◌∷◌, length, drop, Option, Some, None, Result, Ok, Err}
 use Rattle.pump_frame.specs.Counts.{Rose}
 use Rattle.pump_frame.specs.declared.row.SessionRow.{SessionRow}
 use Rattle.disk_model.specs.Disk.{Meaning, Moves, Same, Leaves}
@@ -28,18 +29,20 @@ pub record StandFor (row : SessionRow) (E B : ℕ) (live received : List (List �
   pub recv_stands : RecvStands row received recv
 
 -- .. and nothing is refused of them
-pub record AreFound (row : SessionRow) (size E B : ℕ) (live received : List (List ℕ)) (low high recv : List ℕ) : Type 0 where
-  pub stand : StandFor row E B live received low high recv
-  pub pump : refused_pump row low high ≡ None
-  pub receiver : refused_receiver row size recv ≡ None
-  pub order : (B ≤ length received) × (length received ≤ E)
-  pub agree : SlotsAgree row B (length received) received low
+pub record AreFound (row : SessionRow) (size E B : ℕ) (live received : List (List ℕ)) (low high recv : List ℕ) : Type 0
+  where
+    pub stand : StandFor row E B live received low high recv
+    pub pump : refused_pump row low high ≡ None
+    pub receiver : refused_receiver row size recv ≡ None
+    pub order : (B ≤ length received) × (length received ≤ E)
+    pub agree : SlotsAgree row B (length received) received low
 
 -- ---- the new disks, byte by byte ----
 
 -- a disk with a message in its slot
 abbrev pub with_message : SessionRow → ℕ → List ℕ → List ℕ → List ℕ
-with_message row n message disk = take (slot_of row n) disk ++ spelled message ++ drop (slot_of row n + length (spelled message)) disk
+with_message row n message disk = take (slot_of row n) disk ++ spelled message ++ drop
+    (slot_of row n + length (spelled message)) disk
 
 -- .. with these messages, numbered from n on, in their slots
 abbrev pub with_messages : SessionRow → ℕ → List (List ℕ) → List ℕ → List ℕ
@@ -59,21 +62,24 @@ abbrev pub recv_bytes : SessionRow → ℕ → List ℕ → List ℕ
 recv_bytes row R old = bare_bytes row Recv R (value_of old).1 ++ log_of (value_of old).1 old
 
 -- the three
-pub record AreWritten (row : SessionRow) (E B R : ℕ) (live : List (List ℕ)) (old_recv low high recv : List ℕ) : Type 0 where
-  pub low_is : low ≡ low_bytes row E B live
-  pub high_is : high ≡ high_bytes row B
-  pub recv_is : recv ≡ recv_bytes row R old_recv
+pub record AreWritten (row : SessionRow) (E B R : ℕ) (live : List (List ℕ)) (old_recv low high recv : List ℕ) : Type 0
+  where
+    pub low_is : low ≡ low_bytes row E B live
+    pub high_is : high ≡ high_bytes row B
+    pub recv_is : recv ≡ recv_bytes row R old_recv
 
 -- ---- the order of refusals ----
 
--- the old disks: the first cause of the two of the pump, else of the receiver's alone, else of the receiver's beside low's
+-- the old disks: the first cause of the two of the pump, else of the receiver's alone, else of the receiver's beside
+-- low's
 abbrev pub AreRefused : SessionRow → ℕ → List ℕ → List ℕ → List ℕ → Role → Why → Type 0
 AreRefused row size low high recv role why =
     (refused_pump row low high ≡ Some (role, why))
     ⊎ ((refused_pump row low high ≡ None) × (role ≡ Recv)
     × ((refused_receiver row size recv ≡ Some why)
     ⊎ ((refused_receiver row size recv ≡ None)
-    × ((messages : List (List ℕ)) → RecvStands row messages recv → Disagrees row (value_of high).0 (value_of recv).0 (value_of low).0 messages low why))))
+    × ((messages : List (List ℕ)) → RecvStands row messages recv
+    → Disagrees row (value_of high).0 (value_of recv).0 (value_of low).0 messages low why))))
 
 -- a new disk that isn't empty
 abbrev pub full : Role → List ℕ → Option (Role × Why)
@@ -106,7 +112,8 @@ first_unfit to B live received =
     (fault_of false (told_of Low (too_long to (length received) (drop (length received - B) live)))))
 
 -- The first cause: of the old disks, else of the new ones, else of what doesn't fit.
-abbrev pub IsMoveRefused : SessionRow → SessionRow → ℕ → List ℕ → List ℕ → List ℕ → List ℕ → List ℕ → List ℕ → MoveFault → Type 0
+abbrev pub IsMoveRefused : SessionRow → SessionRow → ℕ → List ℕ → List ℕ → List ℕ → List ℕ → List ℕ → List ℕ → MoveFault
+    → Type 0
 IsMoveRefused from to size low high recv new_low new_high new_recv fault =
     ((fault.new ≡ false) × AreRefused from size low high recv fault.role fault.why)
     ⊎ ((E B : ℕ) × (live received : List (List ℕ)) × AreFound from size E B live received low high recv
@@ -130,12 +137,16 @@ pub record IsKept {D : Type 0} (m : Meaning D) (old now : D) (failed : Bool) : T
   pub moves : Moves m Same old now
   pub counted : Counted m old now failed
 
--- Where a new disk was empty, and a crash before would have left fewer than 80 bytes of it, a crash at any moment since leaves no buffer or one that stands for just this.
+-- Where a new disk was empty, and a crash before would have left fewer than 80 bytes of it, a crash at any moment
+-- since leaves no buffer or one that stands for just this.
 abbrev pub IsMade : {D : Type 0} → Meaning D → (List ℕ → Type 0) → D → D → Type 0
-IsMade m Stands old now = (m.reading old ≡ []) → ((c : List ℕ) → m.images old c → length c < 80) → Leaves m old now (IsNoneOr Stands)
+IsMade m Stands old now = (m.reading old ≡ []) → ((c : List ℕ) → m.images old c → length c < 80)
+    → Leaves m old now (IsNoneOr Stands)
 
--- The new disks are written in turn, low's, high's and the receiver's. One is written only where those before it are whole, and none after the one at which a fault ended it.
-pub record AreWrittenInTurn {D T : Type 0} (m : Meaning D) (low_is high_is : List ℕ) (old now : Trio D) (result : Result T MoveFault) : Type 0 where
+-- The new disks are written in turn, low's, high's and the receiver's. One is written only where those before it are
+-- whole, and none after the one at which a fault ended it.
+pub record AreWrittenInTurn {D T : Type 0} (m : Meaning D) (low_is high_is : List ℕ) (old now : Trio D)
+    (result : Result T MoveFault) : Type 0 where
   pub at_low : IfErr result (λ f. f.role ≡ Low → Moves m Same old.high now.high × Moves m Same old.recv now.recv)
   pub at_high : IfErr result (λ f. f.role ≡ High → Moves m Same old.recv now.recv)
   pub high : m.tells → Moves m Same old.high now.high ⊎ (m.reading now.low ≡ low_is)

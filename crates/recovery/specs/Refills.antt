@@ -15,5 +15,6 @@ pub record AreRefilled (w : World) (items : List Item) (first last : Option Item
   pub low : (refilled w).low_hand ≡ number_of last
 
 abbrev pub OpeningsRefill : Type 0
-OpeningsRefill = (w : World) (ms : List (List ℕ)) (first last : Option Item) → least_capacity ≤ w.capacity → w.removed + length ms ≡ length w.accepted → length ms ≤ w.capacity
+OpeningsRefill = (w : World) (ms : List (List ℕ)) (first last : Option Item) → least_capacity ≤ w.capacity
+    → w.removed + length ms ≡ length w.accepted → length ms ≤ w.capacity
     → InHands w.capacity (numbered w.removed ms) first last → AreRefilled w (numbered w.removed ms) first last

@@ -1,5 +1,6 @@
 -- The order of refusals: the first cause for which the disks of a session are refused, by what a read of them gives.
-use Rattle.std.specs.Prelude.{◌≡◌, ℕ, zero, suc, ◌+◌, ◌-◌, ◌^◌, ◌==◌, ◌&&◌, nat_le, nat_lt, if◌then◌else◌, true, List, [], ◌∷◌, length, take, drop, slice_index, Option, Some, None}
+use Rattle.std.specs.Prelude.{◌≡◌, ℕ, zero, suc, ◌+◌, ◌-◌, ◌^◌, ◌==◌, ◌&&◌, nat_le, nat_lt, if◌then◌else◌, true, List}
+use Rattle.std.specs.Prelude.{[], ◌∷◌, length, take, drop, slice_index, Option, Some, None}
 use Rattle.byteorder.specs.Endian.{big_number, big_bytes}
 use Rattle.pump_frame.specs.declared.row.SessionRow.{SessionRow}
 use Rattle.disk_model.specs.declared.name.Role.{Role}
@@ -33,7 +34,8 @@ version_of row version = if is_version row version then newest_version else vers
 
 -- what the first 80 bytes say of the disk: role, version, session, capacity, message
 abbrev pub fields : SessionRow → List ℕ → List ℕ
-fields row front = slice_index front 4 ∷ version_of row (slice_index front 5) ∷ word_at front 8 ∷ word_at front 12 ∷ word_at front 16 ∷ []
+fields row prefix = slice_index prefix 4 ∷ version_of row (slice_index prefix 5) ∷ word_at prefix 8 ∷ word_at prefix
+    12 ∷ word_at prefix 16 ∷ []
 
 -- what they have to say
 abbrev pub wanted : SessionRow → Role → List ℕ
@@ -52,22 +54,22 @@ other_size row High size = if size == 80 then None else Some (WrongShape 6 size 
 other_size row Recv size = None
 
 -- the cause that a size and the first 80 bytes give
-abbrev pub refused_front : SessionRow → Role → ℕ → List ℕ → Option Why
-refused_front row role size front =
-    if nat_le 80 size && (word_at front 0 == mark)
-    then or_else (other_field 1 (fields row front) (wanted row role)) (other_size row role size)
-    else Some (NotABuffer size (if nat_lt size 4 then 0 else word_at front 0))
+abbrev pub refused_prefix : SessionRow → Role → ℕ → List ℕ → Option Why
+refused_prefix row role size prefix =
+    if nat_le 80 size && (word_at prefix 0 == mark)
+    then or_else (other_field 1 (fields row prefix) (wanted row role)) (other_size row role size)
+    else Some (NotABuffer size (if nat_lt size 4 then 0 else word_at prefix 0))
 
 abbrev pub refused_shape : SessionRow → Role → List ℕ → Option Why
-refused_shape row role disk = refused_front row role (length disk) (take 80 disk)
+refused_shape row role disk = refused_prefix row role (length disk) (take 80 disk)
 
 -- the fields are spelled as they have to be; only clauses of private functions name this
-pub record HasFields (row : SessionRow) (role : ℕ) (front : List ℕ) : Type 0 where
-  pub role_is : slice_index front 4 ≡ role
-  pub version : is_version row (slice_index front 5) ≡ true
-  pub session : big_bytes 4 row.id ≡ take 4 (drop 8 front)
-  pub capacity : big_bytes 4 row.capacity ≡ take 4 (drop 12 front)
-  pub message : big_bytes 4 row.message ≡ take 4 (drop 16 front)
+pub record HasFields (row : SessionRow) (role : ℕ) (prefix : List ℕ) : Type 0 where
+  pub role_is : slice_index prefix 4 ≡ role
+  pub version : is_version row (slice_index prefix 5) ≡ true
+  pub session : big_bytes 4 row.id ≡ take 4 (drop 8 prefix)
+  pub capacity : big_bytes 4 row.capacity ≡ take 4 (drop 12 prefix)
+  pub message : big_bytes 4 row.message ≡ take 4 (drop 16 prefix)
 
 -- ---- one disk ----
 
@@ -82,7 +84,8 @@ refused_disk row role disk = or_else (refused_shape row role disk) (refused_coun
 -- a receiver's records end where its register says, within the disk and the given size
 abbrev pub refused_log : SessionRow → ℕ → List ℕ → ℕ × ℕ → Option Why
 refused_log row size disk value =
-    if nat_le value.0 (2 ^ 48) && (nat_le 80 value.1 && (nat_le value.1 (length disk) && (nat_le value.1 size && is_log row.message value.0 (log_of value.1 disk))))
+    if nat_le value.0 (2 ^ 48) && (nat_le 80 value.1 && (nat_le value.1 (length disk) &&
+    (nat_le value.1 size && is_log row.message value.0 (log_of value.1 disk))))
     then None
     else Some (BadRegister value.0 value.1)
 

@@ -19,19 +19,24 @@ abbrev pub SlotsTell : SessionRow → ℕ → ℕ → List ℕ → Type 0
 SlotsTell row b E disk = (messages : List (List ℕ)) × (b + length messages ≡ E) × InSlots row b messages disk
 
 -- the counts of two stores whose disks agree
-pub record FitsSurvey {D : Type 0} (m : Meaning D) (removed : ℕ) (low : LowStore D) (receiver : Receiver D) (counts : Counts) : Type 0 where
+pub record FitsSurvey {D : Type 0} (m : Meaning D) (removed : ℕ) (low : LowStore D) (receiver : Receiver D)
+    (counts : Counts) : Type 0 where
   pub accepted : counts.accepted ≡ low_count low
   pub removed_is : counts.removed ≡ removed
   pub received : counts.received ≡ recv_count receiver
   pub end : counts.end ≡ recv_end receiver
   pub order : (removed ≤ recv_count receiver) × (recv_count receiver ≤ low_count low)
-  pub agree : m.tells → (messages : List (List ℕ)) → RecvStands (recv_row receiver) messages (m.reading (recv_disk receiver))
+  pub agree : m.tells → (messages : List (List ℕ))
+      → RecvStands (recv_row receiver) messages (m.reading (recv_disk receiver))
       → SlotsAgree (low_row low) removed (recv_count receiver) messages (m.reading (low_disk low))
 
 -- Three disks stand for these counts, and nothing is refused of them.
-pub record IsSurveyed {D : Type 0} (m : Meaning D) (row : SessionRow) (size : ℕ) (counts : Counts) (disks : Trio D) : Type 0 where
-  pub found : m.tells → (live received : List (List ℕ)) × (length received ≡ counts.received) × ((value_of (m.reading disks.recv)).1 ≡ counts.end)
-      × AreFound row size counts.accepted counts.removed live received (m.reading disks.low) (m.reading disks.high) (m.reading disks.recv)
+pub record IsSurveyed {D : Type 0} (m : Meaning D) (row : SessionRow) (size : ℕ) (counts : Counts) (disks : Trio D) :
+    Type 0 where
+  pub found : m.tells → (live received : List (List ℕ)) × (length received ≡ counts.received)
+      × ((value_of (m.reading disks.recv)).1 ≡ counts.end)
+      × AreFound row size counts.accepted counts.removed live received (m.reading disks.low) (m.reading disks.high)
+      (m.reading disks.recv)
   pub count : counts.accepted ≤ 2 ^ 48
   pub held : (counts.removed ≤ counts.accepted) × (counts.accepted ≤ counts.removed + row.capacity)
   pub order : (counts.removed ≤ counts.received) × (counts.received ≤ counts.accepted)

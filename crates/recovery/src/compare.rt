@@ -1,10 +1,12 @@
 // Low's disk against the receiver's.
-ghost use Rattle.std.specs.Prelude.{◌≡◌, ◌⊎◌, ◌+◌, ◌<◌, ◌≤◌, ℕ, [], true, false, not, List, slice_index_or, IfOk, OnOk, IfErr};
+ghost use Rattle.std.specs.Prelude.{◌≡◌, ◌⊎◌, ◌+◌, ◌<◌, ◌≤◌, ℕ, [], true, false, not, List, slice_index_or, IfOk, OnOk};
+ghost use Rattle.std.specs.Prelude.{IfErr};
 ghost use Rattle.disk_model.specs.Disk.{Moves, Same};
 ghost use Rattle.stable_buffer.specs.Low.{IsLowReady, low_disk, low_row, low_count, low_is_open};
 ghost use Rattle.stable_buffer.specs.Stands.{InSlot};
 ghost use Rattle.stable_buffer.specs.Log.{RecvStands};
-ghost use Rattle.high_receiver.specs.Receiving.{IsRecvReady, recv_disk, recv_row, recv_size, recv_count, recv_end, recv_is_open};
+ghost use Rattle.high_receiver.specs.Receiving.{IsRecvReady, recv_disk, recv_row, recv_size, recv_count, recv_end};
+ghost use Rattle.high_receiver.specs.Receiving.{recv_is_open};
 ghost use Rattle.recovery.specs.Agreement.{SlotsAgree, Disagrees};
 ghost use Rattle.recovery.specs.Calls.{Calls, CallsReceiver, GivesSlot, is_device};
 ghost use Rattle.recovery.specs.declared.why.Why.TheVariants.{Device};
@@ -51,7 +53,8 @@ fn is_same<D: Disk>(low: &mut LowStore<D>, n: u64, receiver: &mut Receiver<D>) -
     ensures ready_receiver { recv_is_open receiver.new ≡ true → IsRecvReady D.told receiver.new }
     ensures open { OnOk result ((low_is_open low.new ≡ true) × (recv_is_open receiver.new ≡ true)) }
     ensures low { (low_count low.new ≡ low_count low.old) × (low_row low.new ≡ low_row low.old) }
-    ensures receiver { (recv_count receiver.new ≡ recv_count receiver.old) × (recv_end receiver.new ≡ recv_end receiver.old)
+    ensures receiver { (recv_count receiver.new ≡ recv_count receiver.old)
+        × (recv_end receiver.new ≡ recv_end receiver.old)
         × (recv_row receiver.new ≡ recv_row receiver.old) × (recv_size receiver.new ≡ recv_size receiver.old) }
     ensures moves_low { Moves D.told Same (low_disk low.old) (low_disk low.new) }
     ensures moves_receiver { Moves D.told Same (recv_disk receiver.old) (recv_disk receiver.new) }
@@ -94,7 +97,8 @@ pub fn agree<D: Disk>(
     ensures fine { OnOk result ((removed ≤ recv_count receiver.old) × (recv_count receiver.old ≤ low_count low.old)
         × (D.told.tells → (messages : List (List ℕ))
         → RecvStands (recv_row receiver.old) messages (D.told.reading (recv_disk receiver.old))
-        → SlotsAgree (low_row low.old) removed (recv_count receiver.old) messages (D.told.reading (low_disk low.old)))) }
+        → SlotsAgree (low_row low.old) removed (recv_count receiver.old) messages
+        (D.told.reading (low_disk low.old)))) }
     ensures exact { IfErr result (λ why. is_device why ≡ false → D.told.tells → (messages : List (List ℕ))
         → RecvStands (recv_row receiver.old) messages (D.told.reading (recv_disk receiver.old))
         → Disagrees (low_row low.old) removed (recv_count receiver.old) (low_count low.old) messages
@@ -121,7 +125,8 @@ pub fn agree<D: Disk>(
     ensures open_err { IfErr result (λ why. is_device why ≡ false
         → (low_is_open low.new ≡ true) × (recv_is_open receiver.new ≡ true)) }
     ensures low { (low_count low.new ≡ low_count low.old) × (low_row low.new ≡ low_row low.old) }
-    ensures receiver { (recv_count receiver.new ≡ recv_count receiver.old) × (recv_end receiver.new ≡ recv_end receiver.old)
+    ensures receiver { (recv_count receiver.new ≡ recv_count receiver.old)
+        × (recv_end receiver.new ≡ recv_end receiver.old)
         × (recv_row receiver.new ≡ recv_row receiver.old) × (recv_size receiver.new ≡ recv_size receiver.old) }
     ensures moves_low { Moves D.told Same (low_disk low.old) (low_disk low.new) }
     ensures moves_receiver { Moves D.told Same (recv_disk receiver.old) (recv_disk receiver.new) }

@@ -1,5 +1,6 @@
 // Writing the new disks.
-ghost use Rattle.std.specs.Prelude.{◌≡◌, ◌+◌, ◌-◌, ◌^◌, ◌<◌, ◌≤◌, ℕ, List, [], length, take, drop, true, false, OnOk, IfErr};
+ghost use Rattle.std.specs.Prelude.{◌≡◌, ◌+◌, ◌-◌, ◌^◌, ◌<◌, ◌≤◌, ℕ, List, [], length, take, drop, true, false, OnOk};
+ghost use Rattle.std.specs.Prelude.{IfErr};
 ghost use Rattle.pump_frame.specs.Rows.{IsLawfulRow};
 ghost use Rattle.disk_model.specs.Disk.{Moves, Torn, IsWritten, Each, Settled};
 ghost use Rattle.disk_model.specs.declared.name.Role.{Role};
@@ -12,7 +13,8 @@ ghost use Rattle.stable_buffer.specs.Stands.{InSlot, LowStands, HighStands, low_
 ghost use Rattle.stable_buffer.specs.Log.{RecvStands};
 ghost use Rattle.std.specs.List.{All};
 ghost use Rattle.recovery.specs.Deals.{InSlots};
-ghost use Rattle.recovery.specs.Moves.{IsKept, Counted, is_blamed, with_message, with_messages, low_bytes, high_bytes, recv_bytes};
+ghost use Rattle.recovery.specs.Moves.{IsKept, Counted, is_blamed, with_message, with_messages, low_bytes, high_bytes};
+ghost use Rattle.recovery.specs.Moves.{recv_bytes};
 ghost use Rattle.recovery.specs.declared.why.Why.TheVariants.{Device};
 ghost use Rattle.recovery.specs.Fillings.{IsBlamedOne, IsMadeFrom};
 
@@ -39,7 +41,8 @@ fn copy_piece<D: Disk>(
 
     ensures within { OnOk result (D.told.tells → at + length piece.old ≤ length (D.told.reading source.old)) }
     ensures written { OnOk result (D.told.tells
-        → IsWritten (D.told.reading target.old) to (take (length piece.old) (drop at (D.told.reading source.old))) (D.told.reading target.new)) }
+        → IsWritten (D.told.reading target.old) to (take (length piece.old) (drop at (D.told.reading source.old)))
+        (D.told.reading target.new)) }
     ensures moves { Moves D.told (Torn to (length piece.old)) target.old target.new }
     ensures kept { IsKept D.told source.old source.new (is_blamed false role result) }
     ensures counted { Counted D.told target.old target.new (is_blamed true role result) }
@@ -69,7 +72,8 @@ fn copy_bytes<D: Disk>(
     requires starts { D.told.tells → to ≤ length (D.told.reading target.old) }
 
     ensures written { OnOk result (D.told.tells
-        → IsWritten (D.told.reading target.old) to (take count (drop at (D.told.reading source.old))) (D.told.reading target.new)) }
+        → IsWritten (D.told.reading target.old) to (take count (drop at (D.told.reading source.old)))
+        (D.told.reading target.new)) }
     ensures moves { Moves D.told (KeepsFirst to) target.old target.new }
     ensures kept { IsKept D.told source.old source.new (is_blamed false role result) }
     ensures counted { Counted D.told target.old target.new (is_blamed true role result) }
@@ -98,7 +102,8 @@ fn copy_message<D: Disk>(
     requires to { IsLawfulRow to.now }
     requires size { D.told.tells → length (D.told.reading target.old) ≡ low_size to.now }
 
-    ensures copied { OnOk result (D.told.tells → (message : List ℕ) → InSlot from.now n message (D.told.reading source.old)
+    ensures copied { OnOk result (D.told.tells → (message : List ℕ)
+        → InSlot from.now n message (D.told.reading source.old)
         → length message ≤ to.now.message
         → InSlot to.now n message (D.told.reading target.new)) }
     ensures put { OnOk result (D.told.tells → (message : List ℕ) → InSlot from.now n message (D.told.reading source.old)
@@ -138,7 +143,8 @@ fn copy_messages<D: Disk>(
 ) -> Result<(), MoveFault>
     requires from { IsLawfulRow from.now }
     requires to { IsLawfulRow to.now }
-    requires held { (counts.now.removed ≤ counts.now.accepted) × (counts.now.accepted ≤ counts.now.removed + to.now.capacity) }
+    requires held { (counts.now.removed ≤ counts.now.accepted)
+        × (counts.now.accepted ≤ counts.now.removed + to.now.capacity) }
     requires size { D.told.tells → length (D.told.reading target.old) ≡ low_size to.now }
 
     ensures copied { OnOk result (D.told.tells → (live : List (List ℕ))
@@ -180,7 +186,8 @@ fn begin_as<D: Disk>(
         → LeavesFrom D.told moment IsNone target.old → LeavesFrom D.told moment IsNone target.new }
     ensures later { D.told.moment target.old ≤ D.told.moment target.new }
     ensures counted { Counted D.told target.old target.new (is_blamed true role result) }
-    ensures device { IfErr result (λ f. f ≡ record { new = true; role = role; why = Device (D.told.count target.new) }) }
+    ensures device { IfErr result (λ f. f
+        ≡ record { new = true; role = role; why = Device (D.told.count target.new) }) }
 {
     match begin(target, to, role, first, second) {
         Ok(()) => Ok(()),
@@ -201,7 +208,8 @@ fn finish_as<D: Disk>(target: &mut D, role: Role) -> Result<(), MoveFault>
         → LeavesFrom D.told moment (IsNoneOr (λ c. c ≡ marked (D.told.reading target.old))) target.old
         → LeavesFrom D.told moment (IsNoneOr (λ c. c ≡ marked (D.told.reading target.old))) target.new }
     ensures counted { Counted D.told target.old target.new (is_blamed true role result) }
-    ensures device { IfErr result (λ f. f ≡ record { new = true; role = role; why = Device (D.told.count target.new) }) }
+    ensures device { IfErr result (λ f. f
+        ≡ record { new = true; role = role; why = Device (D.told.count target.new) }) }
 {
     match finish(target) {
         Ok(()) => Ok(()),
@@ -224,7 +232,8 @@ pub fn write_low<D: Disk>(
     requires to { IsLawfulRow to.now }
     requires empty { D.told.tells → D.told.reading target.old ≡ [] }
     requires count { counts.now.accepted ≤ 2 ^ 48 }
-    requires held { (counts.now.removed ≤ counts.now.accepted) × (counts.now.accepted ≤ counts.now.removed + to.now.capacity) }
+    requires held { (counts.now.removed ≤ counts.now.accepted)
+        × (counts.now.accepted ≤ counts.now.removed + to.now.capacity) }
 
     ensures stands { OnOk result (D.told.tells → (live : List (List ℕ))
         → LowStands from.now counts.now.accepted counts.now.removed live (D.told.reading source.old)
@@ -264,7 +273,8 @@ pub fn write_high<D: Disk>(
     ensures settled { OnOk result (Settled D.told target.new) }
     ensures made { IsMadeFrom D.told (HighStands to.now counts.now.removed) target.old target.new }
     ensures counted { Counted D.told target.old target.new (is_blamed true HighRole result) }
-    ensures device { IfErr result (λ f. f ≡ record { new = true; role = HighRole; why = Device (D.told.count target.new) }) }
+    ensures device { IfErr result (λ f. f
+        ≡ record { new = true; role = HighRole; why = Device (D.told.count target.new) }) }
 {
     begin_as(target, to, Role::High, counts.removed, 0)?;
     finish_as(target, Role::High)?;

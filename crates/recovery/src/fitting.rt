@@ -1,5 +1,6 @@
 // Whether the new disks are empty, and what doesn't fit the new row.
-ghost use Rattle.std.specs.Prelude.{◌≡◌, ◌+◌, ◌-◌, ◌^◌, ◌<◌, ◌≤◌, ℕ, List, [], length, drop, true, false, None, Some, Err, IfOk, OnOk, IfErr};
+ghost use Rattle.std.specs.Prelude.{◌≡◌, ◌+◌, ◌-◌, ◌^◌, ◌<◌, ◌≤◌, ℕ, List, [], length, drop, true, false, None, Some};
+ghost use Rattle.std.specs.Prelude.{Err, IfOk, OnOk, IfErr};
 ghost use Rattle.pump_frame.specs.Rows.{IsLawfulRow};
 ghost use Rattle.disk_model.specs.declared.name.Role.TheVariants.{Low as LowRole, High as HighRole, Recv as RecvRole};
 ghost use Rattle.stable_buffer.specs.Numbers.{length_at};
@@ -8,7 +9,8 @@ ghost use Rattle.stable_buffer.specs.Log.{Records, RecvStands, log_of};
 ghost use Rattle.stable_buffer.specs.Register.{value_of};
 ghost use Rattle.recovery.specs.Refusals.{told_of};
 ghost use Rattle.recovery.specs.Calls.{is_device};
-ghost use Rattle.recovery.specs.Moves.{full, small, too_long, fault_of, first_full, first_unfit, IsKept, is_blamed, disk_of};
+ghost use Rattle.recovery.specs.Moves.{full, small, too_long, fault_of, first_full, first_unfit, IsKept, is_blamed};
+ghost use Rattle.recovery.specs.Moves.{disk_of};
 ghost use Rattle.recovery.specs.declared.why.Why.TheVariants.{Device};
 
 use crate::survey::{Counts, old_fault};
@@ -52,7 +54,8 @@ pub fn check_empty<D: Disk>(new: &mut Trio<D>) -> Result<(), MoveFault>
     ensures fine { OnOk result (D.told.tells → (D.told.reading new.old.low ≡ []) × (D.told.reading new.old.high ≡ [])
         × (D.told.reading new.old.recv ≡ [])) }
     ensures exact { IfErr result (λ f. is_device f.why ≡ false → D.told.tells
-        → first_full (D.told.reading new.old.low) (D.told.reading new.old.high) (D.told.reading new.old.recv) ≡ Some f) }
+        → first_full (D.told.reading new.old.low) (D.told.reading new.old.high) (D.told.reading new.old.recv)
+        ≡ Some f) }
     ensures device { IfErr result (λ f. is_device f.why ≡ true
         → (f.new ≡ true) × (f.why ≡ Device (D.told.count (disk_of new.new f.role)))) }
     ensures low { IsKept D.told new.old.low new.new.low (is_blamed true LowRole result) }
@@ -93,7 +96,8 @@ pub fn read_length<D: Disk>(disk: &mut D, at: u64, role: Role) -> Result<u32, Mo
 fn check_records<D: Disk>(recv: &mut D, to: &SessionRow, counts: &Counts) -> Result<(), MoveFault>
     requires from { 80 ≤ counts.now.end }
 
-    ensures fine { OnOk result (D.told.tells → (most : ℕ) (received : List (List ℕ)) → length received ≡ counts.now.received
+    ensures fine { OnOk result (D.told.tells → (most : ℕ) (received : List (List ℕ))
+        → length received ≡ counts.now.received
         → counts.now.end ≤ length (D.told.reading recv.old)
         → Records most received (log_of counts.now.end (D.told.reading recv.old)) → too_long to.now 0 received ≡ None) }
     ensures exact { IfErr result (λ f. is_device f.why ≡ false → D.told.tells → (most : ℕ) (received : List (List ℕ))
@@ -144,7 +148,8 @@ fn check_slots<D: Disk>(
         → too_long to.now counts.now.received (drop (counts.now.received - counts.now.removed) live) ≡ None) }
     ensures exact { IfErr result (λ f. is_device f.why ≡ false → D.told.tells → (live : List (List ℕ))
         → LowStands from.now counts.now.accepted counts.now.removed live (D.told.reading low.old)
-        → fault_of false (told_of LowRole (too_long to.now counts.now.received (drop (counts.now.received - counts.now.removed) live))) ≡ Some f) }
+        → fault_of false (told_of LowRole (too_long to.now counts.now.received
+        (drop (counts.now.received - counts.now.removed) live))) ≡ Some f) }
     ensures device { IfErr result (λ f. is_device f.why ≡ true
         → (f.new ≡ false) × (f.role ≡ LowRole) × (f.why ≡ Device (D.told.count low.new))) }
     ensures kept { IsKept D.told low.old low.new (is_blamed false LowRole result) }

@@ -1,5 +1,6 @@
 // Moving the disks of a session to new ones.
-ghost use Rattle.std.specs.Prelude.{◌≡◌, ◌+◌, ◌^◌, ◌<◌, ◌≤◌, ℕ, List, [], length, true, false, None, Some, IfOk, OnOk, IfErr};
+ghost use Rattle.std.specs.Prelude.{◌≡◌, ◌+◌, ◌^◌, ◌<◌, ◌≤◌, ℕ, List, [], length, true, false, None, Some, IfOk, OnOk};
+ghost use Rattle.std.specs.Prelude.{IfErr};
 ghost use Rattle.std.specs.List.{All};
 ghost use Rattle.pump_frame.specs.Rows.{IsLawfulRow};
 ghost use Rattle.disk_model.specs.Disk.{Moves, Same, Settled};
@@ -9,7 +10,8 @@ ghost use Rattle.stable_buffer.specs.Stands.{LowStands, HighStands};
 ghost use Rattle.stable_buffer.specs.Log.{RecvStands};
 ghost use Rattle.recovery.specs.Calls.{is_device};
 ghost use Rattle.recovery.specs.Refusals.{or_else};
-ghost use Rattle.recovery.specs.Moves.{StandFor, AreFound, IsMoveRefused, IsKept, IsMade, Counted, is_blamed, disk_at, first_full, first_unfit, AreWritten, AreWrittenInTurn, low_bytes, high_bytes};
+ghost use Rattle.recovery.specs.Moves.{StandFor, AreFound, IsMoveRefused, IsKept, IsMade, Counted, is_blamed, disk_at};
+ghost use Rattle.recovery.specs.Moves.{first_full, first_unfit, AreWritten, AreWrittenInTurn, low_bytes, high_bytes};
 ghost use Rattle.recovery.specs.Fillings.{IsMadeFrom};
 ghost use Rattle.recovery.specs.declared.trio.MoveFault.{MoveFault};
 ghost use Rattle.recovery.specs.declared.why.Why.TheVariants.{Device};
@@ -81,7 +83,8 @@ fn write_all<D: Disk>(
     requires empty { D.told.tells → (D.told.reading new.old.low ≡ []) × (D.told.reading new.old.high ≡ [])
         × (D.told.reading new.old.recv ≡ []) }
     requires count { counts.now.accepted ≤ 2 ^ 48 }
-    requires held { (counts.now.removed ≤ counts.now.accepted) × (counts.now.accepted ≤ counts.now.removed + to.now.capacity) }
+    requires held { (counts.now.removed ≤ counts.now.accepted)
+        × (counts.now.accepted ≤ counts.now.removed + to.now.capacity) }
     requires received { counts.now.received ≤ counts.now.accepted }
     requires end { (80 ≤ counts.now.end) × (counts.now.end < 2 ^ 64) }
 
@@ -99,14 +102,17 @@ fn write_all<D: Disk>(
         → LowStands from.now counts.now.accepted counts.now.removed live (D.told.reading old.old.low)
         → All (λ message. length message ≤ to.now.message) live
         → value_of (D.told.reading old.old.recv) ≡ (counts.now.received, counts.now.end)
-        → AreWritten to.now counts.now.accepted counts.now.removed counts.now.received live (D.told.reading old.old.recv)
+        → AreWritten to.now counts.now.accepted counts.now.removed counts.now.received live
+        (D.told.reading old.old.recv)
         (D.told.reading new.new.low) (D.told.reading new.new.high) (D.told.reading new.new.recv)) }
     ensures turn { (live : List (List ℕ)) → (D.told.tells
         → LowStands from.now counts.now.accepted counts.now.removed live (D.told.reading old.old.low))
         → (D.told.tells → All (λ message. length message ≤ to.now.message) live)
-        → AreWrittenInTurn D.told (low_bytes to.now counts.now.accepted counts.now.removed live) (high_bytes to.now counts.now.removed)
+        → AreWrittenInTurn D.told (low_bytes to.now counts.now.accepted counts.now.removed live)
+        (high_bytes to.now counts.now.removed)
         new.old new.new result }
-    ensures settled { OnOk result (Settled D.told new.new.low × Settled D.told new.new.high × Settled D.told new.new.recv) }
+    ensures settled { OnOk result (Settled D.told new.new.low × Settled D.told new.new.high
+        × Settled D.told new.new.recv) }
     ensures made_low { (live : List (List ℕ)) → (D.told.tells
         → LowStands from.now counts.now.accepted counts.now.removed live (D.told.reading old.old.low))
         → (D.told.tells → All (λ message. length message ≤ to.now.message) live)
@@ -154,19 +160,25 @@ pub fn migrate<D: Disk>(
     requires to { IsLawfulRow to.now }
 
     ensures moved { IfOk result.end (λ n. D.told.tells → (live received : List (List ℕ))
-        × AreFound from.now size n.0 n.1 live received (D.told.reading old.low) (D.told.reading old.high) (D.told.reading old.recv)
+        × AreFound from.now size n.0 n.1 live received (D.told.reading old.low) (D.told.reading old.high)
+        (D.told.reading old.recv)
         × (length received ≡ n.2)
         × (first_full (D.told.reading new.low) (D.told.reading new.high) (D.told.reading new.recv) ≡ None)
-        × StandFor to.now n.0 n.1 live received (D.told.reading result.new.low) (D.told.reading result.new.high) (D.told.reading result.new.recv)
-        × AreWritten to.now n.0 n.1 n.2 live (D.told.reading old.recv) (D.told.reading result.new.low) (D.told.reading result.new.high) (D.told.reading result.new.recv)) }
-    ensures settled { OnOk result.end (Settled D.told result.new.low × Settled D.told result.new.high × Settled D.told result.new.recv) }
+        × StandFor to.now n.0 n.1 live received (D.told.reading result.new.low) (D.told.reading result.new.high)
+        (D.told.reading result.new.recv)
+        × AreWritten to.now n.0 n.1 n.2 live (D.told.reading old.recv) (D.told.reading result.new.low)
+        (D.told.reading result.new.high) (D.told.reading result.new.recv)) }
+    ensures settled { OnOk result.end (Settled D.told result.new.low × Settled D.told result.new.high
+        × Settled D.told result.new.recv) }
 
     // The first refusal in the order, exactly where it holds, and nothing else but a device.
     ensures fine { OnOk result.end (D.told.tells → (f : MoveFault)
-        → IsMoveRefused from.now to.now size (D.told.reading old.low) (D.told.reading old.high) (D.told.reading old.recv)
+        → IsMoveRefused from.now to.now size (D.told.reading old.low) (D.told.reading old.high)
+        (D.told.reading old.recv)
         (D.told.reading new.low) (D.told.reading new.high) (D.told.reading new.recv) f → ⊥) }
     ensures exact { IfErr result.end (λ f. is_device f.why ≡ false → D.told.tells
-        → IsMoveRefused from.now to.now size (D.told.reading old.low) (D.told.reading old.high) (D.told.reading old.recv)
+        → IsMoveRefused from.now to.now size (D.told.reading old.low) (D.told.reading old.high)
+        (D.told.reading old.recv)
         (D.told.reading new.low) (D.told.reading new.high) (D.told.reading new.recv) f) }
     ensures device { IfErr result.end (λ f. is_device f.why ≡ true
         → f.why ≡ Device (D.told.count (disk_at result.old result.new f.new f.role))) }
@@ -179,28 +191,36 @@ pub fn migrate<D: Disk>(
     ensures new_high { Counted D.told new.high result.new.high (is_blamed true HighRole result.end) }
     ensures new_recv { Counted D.told new.recv result.new.recv (is_blamed true RecvRole result.end) }
     ensures unwritten { D.told.tells → (f : MoveFault)
-        → IsMoveRefused from.now to.now size (D.told.reading old.low) (D.told.reading old.high) (D.told.reading old.recv)
+        → IsMoveRefused from.now to.now size (D.told.reading old.low) (D.told.reading old.high)
+        (D.told.reading old.recv)
         (D.told.reading new.low) (D.told.reading new.high) (D.told.reading new.recv) f
-        → Moves D.told Same new.low result.new.low × Moves D.told Same new.high result.new.high × Moves D.told Same new.recv result.new.recv }
+        → Moves D.told Same new.low result.new.low × Moves D.told Same new.high result.new.high
+        × Moves D.told Same new.recv result.new.recv }
 
     // Where a new disk is not empty no new disk is written, whatever comes.
-    ensures full { D.told.tells → (first_full (D.told.reading new.low) (D.told.reading new.high) (D.told.reading new.recv) ≡ None → ⊥)
-        → Moves D.told Same new.low result.new.low × Moves D.told Same new.high result.new.high × Moves D.told Same new.recv result.new.recv }
+    ensures full { D.told.tells → (first_full (D.told.reading new.low) (D.told.reading new.high)
+        (D.told.reading new.recv) ≡ None → ⊥)
+        → Moves D.told Same new.low result.new.low × Moves D.told Same new.high result.new.high
+        × Moves D.told Same new.recv result.new.recv }
 
     // The new disks are written in turn.
     ensures turn { (E B : ℕ) (live received : List (List ℕ))
-        → StandFor from.now E B live received (D.told.reading old.low) (D.told.reading old.high) (D.told.reading old.recv)
+        → StandFor from.now E B live received (D.told.reading old.low) (D.told.reading old.high)
+        (D.told.reading old.recv)
         → AreWrittenInTurn D.told (low_bytes to.now E B live) (high_bytes to.now B) new result.new result.end }
 
     // A crash at any moment leaves of each new disk no buffer, or one that stands for just this.
     ensures made_low { (E B : ℕ) (live received : List (List ℕ))
-        → StandFor from.now E B live received (D.told.reading old.low) (D.told.reading old.high) (D.told.reading old.recv)
+        → StandFor from.now E B live received (D.told.reading old.low) (D.told.reading old.high)
+        (D.told.reading old.recv)
         → IsMade D.told (LowStands to.now E B live) new.low result.new.low }
     ensures made_high { (E B : ℕ) (live received : List (List ℕ))
-        → StandFor from.now E B live received (D.told.reading old.low) (D.told.reading old.high) (D.told.reading old.recv)
+        → StandFor from.now E B live received (D.told.reading old.low) (D.told.reading old.high)
+        (D.told.reading old.recv)
         → IsMade D.told (HighStands to.now B) new.high result.new.high }
     ensures made_recv { (E B : ℕ) (live received : List (List ℕ))
-        → StandFor from.now E B live received (D.told.reading old.low) (D.told.reading old.high) (D.told.reading old.recv)
+        → StandFor from.now E B live received (D.told.reading old.low) (D.told.reading old.high)
+        (D.told.reading old.recv)
         → IsMade D.told (RecvStands to.now received) new.recv result.new.recv }
 {
     let surveyed = survey(from, old, size);

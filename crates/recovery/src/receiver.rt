@@ -2,7 +2,8 @@
 ghost use Rattle.std.specs.Prelude.{◌≡◌, true, false, Some, None, length, IfOk, OnOk, IfErr};
 ghost use Rattle.pump_frame.specs.Rows.{IsLawfulRow};
 ghost use Rattle.disk_model.specs.Disk.{Moves, Same};
-ghost use Rattle.high_receiver.specs.Receiving.{IsRecvReady, StandsForSome, recv_disk, recv_count, recv_end, recv_row, recv_size};
+ghost use Rattle.high_receiver.specs.Receiving.{IsRecvReady, StandsForSome, recv_disk, recv_count, recv_end, recv_row};
+ghost use Rattle.high_receiver.specs.Receiving.{recv_size};
 ghost use Rattle.stable_buffer.specs.Register.{value_of};
 ghost use Rattle.recovery.specs.Refusals.{refused_receiver};
 ghost use Rattle.recovery.specs.Calls.{Calls, is_device};

@@ -1,11 +1,13 @@
 // The first bytes of a disk.
-ghost use Rattle.std.specs.Prelude.{◌≡◌, ◌+◌, ◌≤◌, true, false, Some, None, length, take, drop, IfSome, OnOk, IfOk, IfErr};
+ghost use Rattle.std.specs.Prelude.{◌≡◌, ◌+◌, ◌≤◌, true, false, Some, None, length, take, drop, IfSome, OnOk, IfOk};
+ghost use Rattle.std.specs.Prelude.{IfErr};
 ghost use Rattle.byteorder.specs.Endian.{big_bytes};
 ghost use Rattle.pump_frame.specs.Rows.{IsLawfulRow};
 ghost use Rattle.disk_model.specs.Disk.{Moves, Same};
 ghost use Rattle.stable_buffer.specs.Stands.{HasHeader};
 ghost use Rattle.stable_buffer.specs.Format.{role_byte};
-ghost use Rattle.recovery.specs.Refusals.{word_at, fields, wanted, other_field, other_size, refused_front, refused_shape, HasFields};
+ghost use Rattle.recovery.specs.Refusals.{word_at, fields, wanted, other_field, other_size, refused_prefix};
+ghost use Rattle.recovery.specs.Refusals.{refused_shape, HasFields};
 ghost use Rattle.recovery.specs.Calls.{Calls, failed, is_device};
 ghost use Rattle.recovery.specs.declared.why.Why.TheVariants.{Device, WrongShape};
 
@@ -47,28 +49,28 @@ fn differs(field: u32, found: u64, wanted: u64) -> Why
     }
 }
 
-fn find_other_field(front: &[u8], row: &SessionRow, role: Role) -> Option<Why>
-    requires { length front.now ≡ 80 }
-    ensures first { result ≡ other_field 1 (fields row.now front.now) (wanted row.now role) }
-    ensures none { result ≡ None → HasFields row.now (role_byte role) front.now }
+fn find_other_field(prefix: &[u8], row: &SessionRow, role: Role) -> Option<Why>
+    requires { length prefix.now ≡ 80 }
+    ensures first { result ≡ other_field 1 (fields row.now prefix.now) (wanted row.now role) }
+    ensures none { result ≡ None → HasFields row.now (role_byte role) prefix.now }
     ensures no_device { IfSome result (λ why. is_device why ≡ false) }
 {
     let letter = letter(role);
-    if front[4] != letter {
-        return Some(differs(1, front[4] as u64, letter as u64));
+    if prefix[4] != letter {
+        return Some(differs(1, prefix[4] as u64, letter as u64));
     }
-    if !allows_version(row, front[5]) {
-        return Some(differs(2, front[5] as u64, VERSION as u64));
+    if !allows_version(row, prefix[5]) {
+        return Some(differs(2, prefix[5] as u64, VERSION as u64));
     }
-    let session = word(front, 8);
+    let session = word(prefix, 8);
     if session != row.id {
         return Some(differs(3, session as u64, row.id as u64));
     }
-    let capacity = word(front, 12);
+    let capacity = word(prefix, 12);
     if capacity != row.capacity {
         return Some(differs(4, capacity as u64, row.capacity as u64));
     }
-    let message = word(front, 16);
+    let message = word(prefix, 16);
     if message != row.message {
         return Some(differs(5, message as u64, row.message as u64));
     }
@@ -91,19 +93,19 @@ fn find_other_size(row: &SessionRow, role: Role, size: u64) -> Option<Why>
     }
 }
 
-fn find_refusal(front: &[u8], row: &SessionRow, role: Role, size: u64) -> Option<Why>
+fn find_refusal(prefix: &[u8], row: &SessionRow, role: Role, size: u64) -> Option<Why>
     requires lawful { IsLawfulRow row.now }
-    requires front { length front.now ≡ 80 }
+    requires prefix { length prefix.now ≡ 80 }
     requires size { 80 ≤ size }
-    ensures first { result ≡ refused_front row.now role size front.now }
-    ensures none { result ≡ None → HasHeader row.now (role_byte role) (take 32 front.now) }
+    ensures first { result ≡ refused_prefix row.now role size prefix.now }
+    ensures none { result ≡ None → HasHeader row.now (role_byte role) (take 32 prefix.now) }
     ensures no_device { IfSome result (λ why. is_device why ≡ false) }
 {
-    let bytes = word(front, 0);
+    let bytes = word(prefix, 0);
     if bytes != MARK {
         return Some(Why::NotABuffer { size, bytes });
     }
-    match find_other_field(front, row, role) {
+    match find_other_field(prefix, row, role) {
         Some(why) => Some(why),
         None => find_other_size(row, role, size),
     }
@@ -145,13 +147,13 @@ pub fn check_shape<D: Disk>(disk: &mut D, row: &SessionRow, role: Role) -> Resul
             bytes: word(&first, 0),
         });
     }
-    let mut front = [0; 80];
-    if let Err(DiskFault) = disk.read(0, &mut front) {
+    let mut prefix = [0; 80];
+    if let Err(DiskFault) = disk.read(0, &mut prefix) {
         return Err(Why::Device {
             faults: disk.faults(),
         });
     }
-    match find_refusal(&front, row, role, size) {
+    match find_refusal(&prefix, row, role, size) {
         Some(why) => Err(why),
         None => Ok(size),
     }

@@ -138,7 +138,8 @@ fn compare<D: Disk>(
         × (((f.role ≡ LowRole) × (f.why ≡ Device (D.told.count (low_disk low.new))))
         ⊎ ((f.role ≡ RecvRole) × (f.why ≡ Device (D.told.count (recv_disk receiver.new)))))) }
     ensures low_kept { IsKept D.told (low_disk low.old) (low_disk low.new) (is_blamed false LowRole result) }
-    ensures recv_kept { IsKept D.told (recv_disk receiver.old) (recv_disk receiver.new) (is_blamed false RecvRole result) }
+    ensures recv_kept { IsKept D.told (recv_disk receiver.old) (recv_disk receiver.new)
+        (is_blamed false RecvRole result) }
 {
     match agree(low, removed, receiver) {
         Ok(()) => Ok(Counts {
@@ -160,7 +161,8 @@ pub fn survey<D: Disk>(row: &SessionRow, old: Trio<D>, size: u64) -> Surveyed<D>
 
     ensures found { IfOk result.end (λ counts. IsSurveyed D.told row.now size counts old) }
     ensures refused { IfErr result.end (λ f. is_device f.why ≡ false → D.told.tells → (f.new ≡ false)
-        × AreRefused row.now size (D.told.reading old.low) (D.told.reading old.high) (D.told.reading old.recv) f.role f.why) }
+        × AreRefused row.now size (D.told.reading old.low) (D.told.reading old.high) (D.told.reading old.recv) f.role
+        f.why) }
     ensures device { IfErr result.end (λ f. is_device f.why ≡ true
         → (f.new ≡ false) × (f.why ≡ Device (D.told.count (disk_of result.disks f.role)))) }
     ensures low { IsKept D.told old.low result.disks.low (is_blamed false LowRole result.end) }

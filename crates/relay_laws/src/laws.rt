@@ -18,7 +18,10 @@ ghost use Rattle.serving.specs.SentStored.{SentIsStored};
 /// `BothServed` says of a relay that what it sent is stored so, and `Receives` of a receiver that these are
 /// its turns.
 pub fn receivers_of_a_relay_hold_a_prefix()
-    ensures { (row : SessionRow) (earlier stored : List (List ℕ)) (sent : List Frame) (past : ProcessPast) (pairs : List (ℕ × ℕ)) (size : ℕ) (start : Place) (turns : List Turn) (had : List (List ℕ))
-        → SentIsStored row (length earlier) stored sent past pairs → AreTurns row size start turns → HearsOnly row sent turns
-        → length had ≡ start.count → IsPrefixOf had (earlier ++ stored) → IsPrefixOf (had ++ messages turns) (earlier ++ stored) }
+    ensures { (row : SessionRow) (earlier stored : List (List ℕ)) (sent : List Frame) (past : ProcessPast)
+        (pairs : List (ℕ × ℕ)) (size : ℕ) (start : Place) (turns : List Turn) (had : List (List ℕ))
+        → SentIsStored row (length earlier) stored sent past pairs → AreTurns row size start turns
+        → HearsOnly row sent turns
+        → length had ≡ start.count → IsPrefixOf had (earlier ++ stored)
+        → IsPrefixOf (had ++ messages turns) (earlier ++ stored) }
 {}

@@ -1,5 +1,6 @@
 -- The rule of the second table, whose one word has the number of times published and their average.
-use Rattle.std.specs.Prelude.{◌≡◌, ℕ, ◌+◌, ◌*◌, ◌/◌, ◌%◌, ◌^◌, ◌≤◌, true, false, List, [], ◌∷◌, ◌++◌, length, slice_index}
+use Rattle.std.specs.Prelude.{◌≡◌, ℕ, ◌+◌, ◌*◌, ◌/◌, ◌%◌, ◌^◌, ◌≤◌, true, false, List, [], ◌∷◌, ◌++◌, length}
+use Rattle.std.specs.Prelude.{slice_index}
 use Rattle.std.specs.List.{All}
 use mathlib.Core.Option.{some}
 use lib.ListN.{get_elem?}
@@ -56,7 +57,16 @@ pub record PairKept (row : RowTold) (s : State (Unit {0}) PairView) : Type 0 whe
 
 -- before any step, with both roles in one view
 abbrev pub pair_first : RowTold → PairView
-pair_first row = record { writes = true; places = row.places; averaging = row.averaging; times = []; taken_before = []; reads = true; read_as = row.averaging; pairs = [] }
+pair_first row = record {
+  writes = true;
+  places = row.places;
+  averaging = row.averaging;
+  times = [];
+  taken_before = [];
+  reads = true;
+  read_as = row.averaging;
+  pairs = [];
+}
 
 -- a seat: what it knows; it has no slot
 abbrev pub Mine : Type 0
@@ -80,7 +90,8 @@ IsAveraged a average = (times : List ℕ) × (average ≡ average_of a times)
 
 abbrev pub SeesPair : Mine → ℕ → Mine → Type 0
 SeesPair m word m' =
-    (m' ≡ (with_pair m.0 (word / 2 ^ 32) (word % 2 ^ 32), m.1)) × PairsUpTo m.0 (word / 2 ^ 32) × (word % 2 ^ 32 ≤ 10 ^ 9)
+    (m' ≡ (with_pair m.0 (word / 2 ^ 32) (word % 2 ^ 32), m.1)) × PairsUpTo m.0 (word / 2 ^ 32)
+    × (word % 2 ^ 32 ≤ 10 ^ 9)
     × IsAveraged m.0.read_as (word % 2 ^ 32)
 
 -- a view is parted into the two roles, and a reader's view is taken in
@@ -88,13 +99,31 @@ abbrev pub pair_writer : PairView → PairView
 pair_writer v = record v { reads = false; read_as = no_averaging; pairs = [] }
 
 abbrev pub pair_reader : PairView → PairView
-pair_reader v = record { writes = false; places = 0; averaging = no_averaging; times = []; taken_before = []; reads = v.reads; read_as = v.read_as; pairs = v.pairs }
+pair_reader v = record {
+  writes = false;
+  places = 0;
+  averaging = no_averaging;
+  times = [];
+  taken_before = [];
+  reads = v.reads;
+  read_as = v.read_as;
+  pairs = v.pairs;
+}
 
 abbrev pub pair_both : PairView → PairView → PairView
 pair_both v w = record v { reads = w.reads; read_as = w.read_as; pairs = w.pairs }
 
 abbrev pub pair_spent : PairView
-pair_spent = record { writes = false; places = 0; averaging = no_averaging; times = []; taken_before = []; reads = false; read_as = no_averaging; pairs = [] }
+pair_spent = record {
+  writes = false;
+  places = 0;
+  averaging = no_averaging;
+  times = [];
+  taken_before = [];
+  reads = false;
+  read_as = no_averaging;
+  pairs = [];
+}
 
 -- what a view with both roles knows
 pub record PairTies (v : PairView) : Type 0 where

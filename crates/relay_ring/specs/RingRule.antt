@@ -1,6 +1,7 @@
 -- The rule of the ring: one word counts the items forwarded and one those taken up, and each item in between
 -- lies in the slot of its place.
-use Rattle.std.specs.Prelude.{◌≡◌, ◌≢◌, ℕ, ◌+◌, ◌%◌, ◌^◌, ◌≤◌, ◌<◌, ◌==◌, true, false, MatchBool, MatchOption, List, [], ◌∷◌, ◌++◌, length, slice_index, slice_get, Option, Some, None}
+use Rattle.std.specs.Prelude.{◌≡◌, ◌≢◌, ℕ, ◌+◌, ◌%◌, ◌^◌, ◌≤◌, ◌<◌, ◌==◌, true, false, MatchBool, MatchOption, List, []}
+use Rattle.std.specs.Prelude.{◌∷◌, ◌++◌, length, slice_index, slice_get, Option, Some, None}
 use Rattle.std.specs.List.{All}
 use mathlib.Core.Option.{some}
 use lib.ListN.{get_elem?}
@@ -63,7 +64,8 @@ pub record RingKept (s : State (Option Item) RingView) : Type 0 where
   pub ahead : List Item
   pub rest : List Item
   pub limit : ℕ
-  pub words : (slice_index s.words forwarded_word ≡ length forwarded) × (slice_index s.words taken_word ≡ length taken) × (length s.words ≡ word_count)
+  pub words : (slice_index s.words forwarded_word ≡ length forwarded) × (slice_index s.words taken_word ≡ length taken)
+      × (length s.words ≡ word_count)
   pub whole : forwarded ≡ taken ++ (ahead ++ rest)
   pub some_slots : 0 < length s.homes
   pub below : length forwarded ≤ limit
@@ -72,11 +74,22 @@ pub record RingKept (s : State (Option Item) RingView) : Type 0 where
   pub numbered : Numbered number forwarded
   pub small : number + length forwarded ≤ 2 ^ 48
   pub homes : AreHome s.homes (length s.homes) forwarded (length taken) ahead limit
-  pub each : (id : ℕ) (v : RingView) → get_elem? s.views id ≡ some v → RingFits low high forwarded taken ahead limit id v
+  pub each : (id : ℕ) (v : RingView) → get_elem? s.views id ≡ some v
+      → RingFits low high forwarded taken ahead limit id v
 
 -- before any step, with both roles in one view
 abbrev pub ring_first : RingView
-ring_first = record { is_low = true; forwarded = []; limit = 0; low_tries = []; is_high = true; taken = []; floor = 0; ahead = []; high_tries = [] }
+ring_first = record {
+  is_low = true;
+  forwarded = [];
+  limit = 0;
+  low_tries = [];
+  is_high = true;
+  taken = [];
+  floor = 0;
+  ahead = [];
+  high_tries = [];
+}
 
 -- a seat: what it knows, and the slots that it has
 abbrev pub Mine : Type 0
@@ -126,21 +139,22 @@ SeesRoom slots m taken m' =
     ((m'.0 ≡ with_room m.0 (taken + slots)) × HoldsNext slots m')
 
 -- what is in the slot that was taken last
-abbrev pub in_front : List (ℕ × Option Item) → Option Item
-in_front [] = None
-in_front (x ∷ xs) = x.1
+abbrev pub in_prefix : List (ℕ × Option Item) → Option Item
+in_prefix [] = None
+in_prefix (x ∷ xs) = x.1
 
 -- the item in its slot was forwarded
 abbrev pub Stored : ℕ → Mine → Mine → Type 0
 Stored slots m m' =
-    MatchOption (in_front m.1) (Unit {0}) (λ x. (m'.0 ≡ with_forwarded m.0 x) × HoldsNext slots m')
+    MatchOption (in_prefix m.1) (Unit {0}) (λ x. (m'.0 ≡ with_forwarded m.0 x) × HoldsNext slots m')
 
 -- the high end looks how many were forwarded
 abbrev pub SeesItems : ℕ → Mine → ℕ → Mine → Type 0
 SeesItems slots m forwarded m' =
     (forwarded ≤ 2 ^ 48) × (length m.0.taken ≤ forwarded)
     × MatchBool (forwarded == length m.0.taken) (m' ≡ (with_seek m.0 forwarded, m.1))
-    ((items : List Item) × (m'.0 ≡ with_ahead m.0 items) × (forwarded ≡ length m.0.taken + length items) × HoldsFirst slots m')
+    ((items : List Item) × (m'.0 ≡ with_ahead m.0 items) × (forwarded ≡ length m.0.taken + length items)
+    × HoldsFirst slots m')
 
 -- the first item ahead was taken up, where so many messages were removed
 abbrev pub TookUp : ℕ → Mine → ℕ → List Item → Mine → Type 0
@@ -152,13 +166,39 @@ abbrev pub ring_low : RingView → RingView
 ring_low v = record v { is_high = false; taken = []; floor = 0; ahead = []; high_tries = [] }
 
 abbrev pub ring_high : RingView → RingView
-ring_high v = record { is_low = false; forwarded = []; limit = 0; low_tries = []; is_high = v.is_high; taken = v.taken; floor = v.floor; ahead = v.ahead; high_tries = v.high_tries }
+ring_high v = record {
+  is_low = false;
+  forwarded = [];
+  limit = 0;
+  low_tries = [];
+  is_high = v.is_high;
+  taken = v.taken;
+  floor = v.floor;
+  ahead = v.ahead;
+  high_tries = v.high_tries;
+}
 
 abbrev pub ring_both : RingView → RingView → RingView
-ring_both v w = record v { is_high = w.is_high; taken = w.taken; floor = w.floor; ahead = w.ahead; high_tries = w.high_tries }
+ring_both v w = record v {
+  is_high = w.is_high;
+  taken = w.taken;
+  floor = w.floor;
+  ahead = w.ahead;
+  high_tries = w.high_tries;
+}
 
 abbrev pub ring_spent : RingView
-ring_spent = record { is_low = false; forwarded = []; limit = 0; low_tries = []; is_high = false; taken = []; floor = 0; ahead = []; high_tries = [] }
+ring_spent = record {
+  is_low = false;
+  forwarded = [];
+  limit = 0;
+  low_tries = [];
+  is_high = false;
+  taken = [];
+  floor = 0;
+  ahead = [];
+  high_tries = [];
+}
 
 -- what a view with both roles knows
 pub record RingTies (slots : ℕ) (v : RingView) : Type 0 where

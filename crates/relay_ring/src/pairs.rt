@@ -148,7 +148,8 @@ fn store_pair<K: TimeTold>(
     requires width { seat.old.table_id.words ≡ pair_words }
     requires role { (seat.old.me.0.writes ≡ true) × (seat.old.me.0.reads ≡ false) × (seat.old.me.1 ≡ []) }
     requires count { pair.count ≡ length (seat.old.me.0.times ++ micros ∷ []) }
-    requires average { pair.average ≡ average_of (pair_shape seat.old.me.0).averaging (seat.old.me.0.times ++ micros ∷ []) }
+    requires average { pair.average ≡ average_of (pair_shape seat.old.me.0).averaging
+        (seat.old.me.0.times ++ micros ∷ []) }
     requires bound { pair.average ≤ 10 ^ 9 }
     requires told { (micros ≡ K.micros) × (taken ≡ K.taken) }
     ensures table { seat.new.table_id ≡ seat.old.table_id }
@@ -165,7 +166,8 @@ pub fn tell_time(table: &PairTable, seat: &mut PairSeat, pair: Seen, micros: u32
     requires width { seat.old.table_id.words ≡ pair_words }
     requires role { (seat.old.me.0.writes ≡ true) × (seat.old.me.0.reads ≡ false) × (seat.old.me.1 ≡ []) }
     requires count { pair.count ≡ length (seat.old.me.0.times ++ micros ∷ []) }
-    requires average { pair.average ≡ average_of (pair_shape seat.old.me.0).averaging (seat.old.me.0.times ++ micros ∷ []) }
+    requires average { pair.average ≡ average_of (pair_shape seat.old.me.0).averaging
+        (seat.old.me.0.times ++ micros ∷ []) }
     requires bound { pair.average ≤ 10 ^ 9 }
     ensures table { seat.new.table_id ≡ seat.old.table_id }
     ensures bare { seat.new.me.1 ≡ [] }

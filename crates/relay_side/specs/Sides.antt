@@ -20,8 +20,13 @@ pub record SideTells (D L : Type 0) : Type 1 where
 abbrev pub ports : {P D L : Type 0} → (P → List (PortsStep L D) → Type 0) → (P → ℕ) → P → P → PortsTell D L
 ports did faults old new = record { did = did old; now_did = did new; faults = faults old; now_faults = faults new }
 
-abbrev pub side : {P K D L : Type 0} → (P → List (PortsStep L D) → Type 0) → (P → ℕ) → (K → List ℕ → Type 0) → RelaySide P K → RelaySide P K → SideTells D L
-side did faults reads old new = record { ports = ports did faults old.ports new.ports; reads = reads old.clock; now_reads = reads new.clock }
+abbrev pub side : {P K D L : Type 0} → (P → List (PortsStep L D) → Type 0) → (P → ℕ) → (K → List ℕ → Type 0)
+    → RelaySide P K → RelaySide P K → SideTells D L
+side did faults reads old new = record {
+  ports = ports did faults old.ports new.ports;
+  reads = reads old.clock;
+  now_reads = reads new.clock;
+}
 
 -- Nothing was done at these ports, and they did not fail.
 pub record AreUnused {D L : Type 0} (ports : PortsTell D L) : Type 0 where

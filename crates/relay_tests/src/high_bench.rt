@@ -7,8 +7,9 @@ ghost use Rattle.passage.specs.Plain.{StandsFor as EndsStandFor};
 ghost use Rattle.high_process.specs.Ready.{Ready};
 ghost use Rattle.high_process.specs.States.{last_of};
 
-use crate::fixtures::{item, row};
+use crate::pieces::item;
 use disk_model::{Disk, Role};
+use fixtures::row;
 use high_process::HighProcess;
 use passage::{Calm, Forwarded, LowEnd, PlainEnds};
 use pump_frame::SessionRow;
@@ -59,7 +60,7 @@ pub fn high_bench<D: Disk + Drop>(
         return Err(Fail::new("no count"));
     }
     let number = if is_full { count + 1 } else { count };
-    let (Some(row), Some(next)) = (row(), item(number)) else {
+    let (Some(row), Some(next)) = (row(8), item(number)) else {
         return Err(Fail::new("no row"));
     };
     let hand = if is_full { item(count) } else { None };

@@ -4,8 +4,8 @@ ghost use Rattle.passage.specs.Plain.{StandsFor as EndsStandFor};
 ghost use Rattle.high_process.specs.Ready.{Ready};
 ghost use Rattle.high_process.specs.States.{last_of};
 
-use crate::fixtures::{Few, bytes, link};
 use crate::high_bench::{HighBench, high_bench};
+use crate::pieces::{Few, bytes, link};
 use disk_model::{Disk, MemDisk, PlainDisk};
 use pump_link::{Clock, MemLink, MemPorts, Ports, StepClock};
 use relay_threads::{

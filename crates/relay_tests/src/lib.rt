@@ -4,8 +4,6 @@
 #![tactic(auto)]
 
 #[cfg(test)]
-mod fixtures;
-#[cfg(test)]
 mod high_bench;
 #[cfg(test)]
 mod high_process_tests;
@@ -21,6 +19,8 @@ mod low_worker_tests;
 mod passage_tests;
 #[cfg(test)]
 mod peer_tests;
+#[cfg(test)]
+mod pieces;
 #[cfg(test)]
 mod race_tests;
 #[cfg(test)]

@@ -7,8 +7,8 @@ ghost use Rattle.passage.specs.Plain.{StandsFor as EndsStandFor};
 ghost use Rattle.low_process.specs.Ready.{Ready};
 ghost use Rattle.low_process.specs.Looks.{last_of, is_down};
 
-use crate::fixtures::row;
 use disk_model::{Disk, Role};
+use fixtures::row;
 use low_process::LowProcess;
 use passage::{Calm, PlainEnds};
 use pump_frame::SessionRow;
@@ -52,7 +52,7 @@ pub fn low_bench<D: Disk + Drop>(alloc: Global, disk: D, count: u64) -> Result<L
     ensures up { IfOk result (λ b. is_down b.process ≡ false) }
     ensures last { IfOk result (λ b. last_of b.process ≡ 0) }
 {
-    let Some(row) = row() else {
+    let Some(row) = row(8) else {
         return Err(Fail::new("no row"));
     };
     let ends = Calm(PlainEnds::new(alloc, &row)?);

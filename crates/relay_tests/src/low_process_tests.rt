@@ -4,8 +4,8 @@ ghost use Rattle.passage.specs.Plain.{StandsFor as EndsStandFor};
 ghost use Rattle.low_process.specs.Ready.{Ready};
 ghost use Rattle.low_process.specs.Looks.{IsLawful, arrival_of, last_of};
 
-use crate::fixtures::data;
 use crate::low_bench::{LowBench, low_bench};
+use crate::pieces::data;
 use disk_model::{Disk, MemDisk, PlainDisk};
 use low_process::{Arrival, LowLook};
 use pump_core::{Feedback, Seen};

@@ -4,9 +4,10 @@ ghost use Rattle.passage.specs.Plain.{StandsFor as EndsStandFor};
 ghost use Rattle.low_process.specs.Ready.{Ready};
 ghost use Rattle.low_process.specs.Looks.{last_of, is_down};
 
-use crate::fixtures::{Few, bytes, link, row};
 use crate::low_bench::{LowBench, low_bench};
+use crate::pieces::{Few, bytes, link};
 use disk_model::{Disk, MemDisk, PlainDisk};
+use fixtures::row;
 use pump_link::{Clock, ListWords, MemLink, MemPorts, MemSink, Ports, Sink, StepClock};
 use relay_threads::{
     LowServed, LowWhy, RoundsEnd, Unwatched, low_rounds, serve_low, write_opening,
@@ -171,7 +172,8 @@ fn connections_are_served(rt: HostRuntime) -> Result<(), Fail> {
         },
         Case {
             // an ACK before the HELLO
-            coming: "4e50010400000001000000000000000000004e500101000000010000000000000000000d776561746865723a7761746368",
+            coming: "4e50010400000001000000000000000000004e500101000000010000000000000000000d776561746865723a7761746\
+            368",
             rounds: 3,
             sent: "4e5001050000000100000000000000000001024e5001020000000100000000000000000000",
             stored: 0,
@@ -184,7 +186,8 @@ fn connections_are_served(rt: HostRuntime) -> Result<(), Fail> {
         },
         Case {
             // a DATA of session 2
-            coming: "4e500101000000010000000000000000000d776561746865723a77617463684e500103000000020000000000000000000161",
+            coming: "4e500101000000010000000000000000000d776561746865723a77617463684e5001030000000200000000000000000\
+            00161",
             rounds: 3,
             sent: "4e50010200000001000000000000000000004e500105000000010000000000000000000102",
             stored: 0,
@@ -393,7 +396,7 @@ fn links_of_a_door_are_served(rt: HostRuntime) -> Result<(), Fail> {
 #[test]
 fn a_record_is_opened(rt: HostRuntime) -> Result<(), Fail> {
     let alloc = rt.alloc();
-    let Some(row) = row() else {
+    let Some(row) = row(8) else {
         return Err(Fail::new("no row"));
     };
     let text = b"low-session 1 3 8 2 20000 100000 500000 weather watch 3 1\n";

@@ -1,7 +1,8 @@
 // The two ends of a queue and of a ring, which fill and empty alike.
 ghost use Rattle.std.specs.Prelude.{◌≡◌, ◌-◌, ◌^◌, ◌<◌, ◌≤◌, true};
 
-use crate::fixtures::{item, row};
+use crate::pieces::item;
+use fixtures::row;
 use passage::{Calm, Forwarded, Joined, Next, QueuePassage, WaitHighEnd, WaitLowEnd};
 use pump_core::Seen;
 use relay_ring::RingPassage;
@@ -71,7 +72,8 @@ impl<L: WaitLowEnd, H: WaitHighEnd> Bench for Apart<L, H> {
     ghost use Rattle.std.specs.Prelude.{◌≡◌};
     ghost use Rattle.passage.specs.Ready.{LowReady, HighReady};
 
-    ghost ready = { λ b. LowReady (L.stands b.low) b.counts.next × HighReady (H.stands b.high) b.counts.removed b.counts.published × (L.place b.low ≡ H.place b.high) };
+    ghost ready = { λ b. LowReady (L.stands b.low) b.counts.next
+        × HighReady (H.stands b.high) b.counts.removed b.counts.published × (L.place b.low ≡ H.place b.high) };
 
     fn offer<R: Wait>(&mut self, rt: &R) -> bool {
         let Some(item) = item(self.counts.next) else {
@@ -160,7 +162,7 @@ const EMPTIED: Joined = Joined {
 
 #[test]
 fn the_ends_of_a_queue_fill_and_empty(rt: HostRuntime) -> Result<(), Fail> {
-    let Some(row) = row() else {
+    let Some(row) = row(8) else {
         return Err(Fail::new("no row"));
     };
     let mut passage = QueuePassage::new(rt.alloc(), &row)?;
@@ -178,7 +180,7 @@ fn the_ends_of_a_queue_fill_and_empty(rt: HostRuntime) -> Result<(), Fail> {
 
 #[test]
 fn the_ends_of_a_ring_fill_and_empty(rt: HostRuntime) -> Result<(), Fail> {
-    let Some(row) = row() else {
+    let Some(row) = row(8) else {
         return Err(Fail::new("no row"));
     };
     let mut passage = RingPassage::new(rt.alloc(), &row)?;

@@ -4,8 +4,9 @@ ghost use Rattle.std.specs.Prelude.{◌≡◌, ◌≤◌, [], IfSome};
 ghost use Rattle.pump_frame.specs.Rows.{IsLawfulRow};
 ghost use Rattle.high_receiver.specs.Receiving.{IsRecvReady, recv_row};
 
-use crate::fixtures::{link, row};
+use crate::pieces::link;
 use disk_model::{Disk, PlainDisk, Role};
+use fixtures::row;
 use high_receiver::Receiver;
 use peers::{AppendEnd, Appended, ReceiveEnd, SendEnd, append_with, receive_with, send_with};
 use pump_frame::SessionRow;
@@ -73,7 +74,7 @@ fn sends(alloc: Global, row: &SessionRow, case: &SendRow) -> Result<bool, Fail> 
 
 #[test]
 fn a_sender_sends_what_is_not_stored(rt: HostRuntime) -> Result<(), Fail> {
-    let Some(row) = row() else {
+    let Some(row) = row(8) else {
         return Err(Fail::new("no row"));
     };
     let rows = [
@@ -152,7 +153,7 @@ fn appends(alloc: Global, row: &SessionRow, case: &AppendRow) -> Result<bool, Fa
 // look is left.
 #[test]
 fn a_stream_goes_on_behind_what_is_accepted(rt: HostRuntime) -> Result<(), Fail> {
-    let Some(row) = row() else {
+    let Some(row) = row(8) else {
         return Err(Fail::new("no row"));
     };
     let rows = [
@@ -268,7 +269,7 @@ fn receives(alloc: Global, row: &SessionRow, case: &ReceiveRow) -> Result<bool, 
 
 #[test]
 fn a_receiver_takes_what_is_next(rt: HostRuntime) -> Result<(), Fail> {
-    let Some(row) = row() else {
+    let Some(row) = row(8) else {
         return Err(Fail::new("no row"));
     };
     let rows = [

@@ -2,7 +2,7 @@
 ghost use Rattle.std.specs.Prelude.{◌≤◌};
 ghost use Rattle.race.specs.Turns.{CanTurn};
 
-use crate::fixtures::Few;
+use crate::pieces::Few;
 use arrayvec::ArrayVec;
 use disk_model::Disk;
 use pump_link::{MemSink, StepClock};
@@ -80,7 +80,7 @@ fn a_record_begins_with_the_session_and_ends_with_the_counts(rt: HostRuntime) ->
 }
 
 #[test]
-fn a_failed_write_leaves_a_front_and_the_disks(rt: HostRuntime) -> Result<(), Fail> {
+fn a_failed_write_leaves_a_prefix_and_the_disks(rt: HostRuntime) -> Result<(), Fail> {
     let mut out = sink(rt.alloc(), &[1])?;
     let (raced, received) = race(&rt, rt.alloc(), 100, &TIMES, &mut out, &mut Open, &mut Open)?;
     let wanted = Raced {

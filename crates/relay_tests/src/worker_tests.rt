@@ -6,8 +6,9 @@ ghost use Rattle.low_process.specs.Looks.{arrival_of};
 ghost use Rattle.pump_core.specs.ReplyFrames.{IsLawfulReply};
 ghost use Rattle.relay_threads.specs.RecordLines.{HasLawfulFrame};
 
-use crate::fixtures::{data, row};
+use crate::pieces::data;
 use arrayvec::ArrayVec;
+use fixtures::row;
 use low_process::{Arrival, LookHead};
 use passage::{Calm, Forwarded, Joined, Next, QueuePassage, WaitHighEnd, WaitLowEnd};
 use pump_core::{Feedback, Reply, Seen};
@@ -208,7 +209,7 @@ const ALL_PASSED: Joined = Joined {
 
 #[test]
 fn items_pass_through_the_queue(rt: HostRuntime) -> Result<(), Fail> {
-    let Some(row) = row() else {
+    let Some(row) = row(8) else {
         return Err(Fail::new("no row"));
     };
     let mut passage = QueuePassage::new(rt.alloc(), &row)?;
@@ -220,7 +221,7 @@ fn items_pass_through_the_queue(rt: HostRuntime) -> Result<(), Fail> {
 
 #[test]
 fn items_pass_through_the_ring(rt: HostRuntime) -> Result<(), Fail> {
-    let Some(row) = row() else {
+    let Some(row) = row(8) else {
         return Err(Fail::new("no row"));
     };
     let mut passage = RingPassage::new(rt.alloc(), &row)?;
@@ -281,7 +282,7 @@ fn is_told(row: &SessionRow, look: &LookMade, text: &[u8]) -> bool {
 // What the records of `low_worker_tests` do not have.
 #[test]
 fn looks_are_told(rt: HostRuntime) -> Result<(), Fail> {
-    let (Some(row), Some(data)) = (row(), data(0)) else {
+    let (Some(row), Some(data)) = (row(8), data(0)) else {
         return Err(Fail::new("no row"));
     };
     let seen = Seen {

@@ -21,7 +21,7 @@ use Rattle.relay_threads.specs.declared.high_served.HighWhy.{HighWhy}
 use Rattle.relay_threads.specs.declared.high_served.HighWhy.TheVariants.{Gone, Bad, NotAttach, LinkFailed, Device, Ahead, Behind, Looks, Stopped}
 use Rattle.relay_threads.specs.declared.high_round.Plan.TheVariants.{End, Look}
 use Rattle.relay_threads.specs.Hearings.{Ending, AtFrame, AtBad, AtNotYet, AtEnded, AtFailed, AtMost, IsHearing, Leaves, heard_as, held_by, held_in}
-use Rattle.relay_threads.specs.Workers.{SendsFront}
+use Rattle.relay_threads.specs.Workers.{SendsPrefix}
 use Rattle.relay_threads.specs.HighRounds.{Made, Round, MakesLook, IsRound, GoOn, plan_of, frame_heard, cause, cause_by, cause_made, cause_look, why_of, is_frame, past_after, served, looks_of_rounds, looks_in_round, moments, data_sent, data_made, removes, removals, asks_before, asks_of, held_after, is_attached}
 use Rattle.relay_threads.specs.HighServes.{IsData, RoundMade, Serves, EndsBy, CountsFault, CountsFaultIn}
 use Rattle.pump_link.proofs.Grown.{Draws-nil, Draws-then, Grows-nil, Grows-then}
@@ -120,26 +120,26 @@ pub asks_more : (a b c : List (ℕ × ℕ) → Type 0) (rounds : List Round) (co
 asks_more a b c rounds count removed was e f g = Grows-then a b c _ _ was (subst (λ (ask : ℕ × ℕ). Grows b c (ask ∷ [])) (λ i. (e i, f i)) g)
 
 -- what was sent is of the session of the row that stays
-pub sends_at : (p q : HighProcess) (a b : List ℕ → Type 0) (w : Bool) (made : Option Made) → row_of q ≡ row_of p → SendsFront a b w (spellings (data_made (row_of q).id made)) → SendsFront a b w (spellings (data_made (row_of p).id made))
-sends_at p q a b w made e s = subst (λ (r : SessionRow). SendsFront a b w (spellings (data_made r.id made))) e s
+pub sends_at : (p q : HighProcess) (a b : List ℕ → Type 0) (w : Bool) (made : Option Made) → row_of q ≡ row_of p → SendsPrefix a b w (spellings (data_made (row_of q).id made)) → SendsPrefix a b w (spellings (data_made (row_of p).id made))
+sends_at p q a b w made e s = subst (λ (r : SessionRow). SendsPrefix a b w (spellings (data_made r.id made))) e s
 
--- a front that is whole is all
-whole_sends : (p q : List ℕ → Type 0) (bytes : List ℕ) → SendsFront p q true bytes → Grows p q bytes
-whole_sends p q bytes (front, rest, e, whole, g) = subst (Grows p q) (sym (e ∙ ap (λ t. front ++ t) (whole refl) ∙ append-nil front)) g
+-- a prefix that is whole is all
+whole_sends : (p q : List ℕ → Type 0) (bytes : List ℕ) → SendsPrefix p q true bytes → Grows p q bytes
+whole_sends p q bytes (prefix, rest, e, whole, g) = subst (Grows p q) (sym (e ∙ ap (λ t. prefix ++ t) (whole refl) ∙ append-nil prefix)) g
 
--- all that was sent is a front of itself
-pub sent_all : (p q : List ℕ → Type 0) (b : Bool) (bytes : List ℕ) → Grows p q bytes → SendsFront p q b bytes
+-- all that was sent is a prefix of itself
+pub sent_all : (p q : List ℕ → Type 0) (b : Bool) (bytes : List ℕ) → Grows p q bytes → SendsPrefix p q b bytes
 sent_all p q b bytes grew = (bytes, [], sym (append-nil bytes), (λ e. refl), grew)
 
 module _ (gave g1 g2 : List Looked → Type 0) (s s1 s2 k k1 k2 : List ℕ → Type 0) (a a1 : List (ℕ × ℕ) → Type 0) (session : ℕ) (rounds : List Round) (was : Told gave g1 s s1 k k1 a a1 session rounds) where
-  module _ (r : Round) (looks : Draws g1 g2 (looks_in_round r)) (sends : SendsFront s1 s2 r.is_sent (spellings (data_made session r.made))) (moment : Draws k1 k2 (r.moment ∷ [])) where
+  module _ (r : Round) (looks : Draws g1 g2 (looks_in_round r)) (sends : SendsPrefix s1 s2 r.is_sent (spellings (data_made session r.made))) (moment : Draws k1 k2 (r.moment ∷ [])) where
     looks_more : Draws gave g2 (looks_of_rounds (r ∷ rounds))
     looks_more = Draws-then gave g1 g2 _ _ was.looks looks
 
     moments_more : Draws k k2 (moments (r ∷ rounds))
     moments_more = Draws-then k k1 k2 _ _ was.moments moment
 
-    sends_more : SendsFront s s2 r.is_sent (spellings (data_sent session (r ∷ rounds)))
+    sends_more : SendsPrefix s s2 r.is_sent (spellings (data_sent session (r ∷ rounds)))
     sends_more = (
       spellings (data_sent session rounds) ++ sends.0,
       sends.1,
@@ -149,13 +149,13 @@ module _ (gave g1 g2 : List Looked → Type 0) (s s1 s2 k k1 k2 : List ℕ → T
     )
 
     -- all three, also of a round that ended the call
-    pub each_more : Draws gave g2 (looks_of_rounds (r ∷ rounds)) × SendsFront s s2 r.is_sent (spellings (data_sent session (r ∷ rounds))) × Draws k k2 (moments (r ∷ rounds))
+    pub each_more : Draws gave g2 (looks_of_rounds (r ∷ rounds)) × SendsPrefix s s2 r.is_sent (spellings (data_sent session (r ∷ rounds))) × Draws k k2 (moments (r ∷ rounds))
     each_more = (looks_more, sends_more, moments_more)
 
     pub told_more : (a2 : List (ℕ × ℕ) → Type 0) → r.is_sent ≡ true → Grows a a2 (asks_before (r ∷ rounds)) → Told gave g2 s s2 k k2 a a2 session (r ∷ rounds)
     told_more a2 whole asks = record {
       looks = looks_more;
-      bytes = whole_sends s s2 _ (subst (λ b. SendsFront s s2 b (spellings (data_sent session (r ∷ rounds)))) whole sends_more);
+      bytes = whole_sends s s2 _ (subst (λ b. SendsPrefix s s2 b (spellings (data_sent session (r ∷ rounds)))) whole sends_more);
       moments = moments_more;
       asks = asks;
     }

@@ -3,7 +3,7 @@ use Rattle.std.proofs.Common.{◌≡◌, Option, ℕ, ◌≤◌, Bool, true, Lis
 use Rattle.std.specs.Prelude.{Result, Ok, Err, OnOk, OnErr, is_ok}
 use Rattle.std.specs.Io.KnownBytes.{Appends}
 use Rattle.pump_frame.specs.Counts.{Rose}
-use Rattle.pump_link.specs.Causes.{AppendsFront, HasCause}
+use Rattle.pump_link.specs.Causes.{AppendsPrefix, HasCause}
 use Rattle.relay_threads.specs.Reaching.{Reaches}
 
 pub rose_later : (a b c : ℕ) → a ≤ b → Rose b c → Rose a c
@@ -16,7 +16,7 @@ rose_earlier a b c h le = omega (arith, le, h)
 pub reaches_all : (Adds : List ℕ → Type 0) (before now : ℕ) (bytes : List ℕ) → before ≤ now → Adds bytes → Reaches Adds before now true bytes
 reaches_all Adds before now bytes le added = record {
   whole = λ e. added;
-  front = (bytes, [], sym (append-nil bytes), added);
+  prefix = (bytes, [], sym (append-nil bytes), added);
   cause = λ e. absurd (cc);
   later = le;
 }
@@ -29,13 +29,13 @@ pub reaches_behind : (Adds More : List ℕ → Type 0) (before mid now : ℕ) (i
     → ((rest : List ℕ) → More rest → Adds (first ++ rest)) → Reaches More mid now is_whole bytes → Reaches Adds before now is_whole (first ++ bytes)
 reaches_behind Adds More before mid now is_whole first bytes le adds r = record {
   whole = λ e. adds bytes (r.whole e);
-  front = (first ++ r.front.0, r.front.1, ap (λ (z : List ℕ). first ++ z) r.front.2 ∙ sym (append_assoc first r.front.0 r.front.1), adds r.front.0 r.front.3);
+  prefix = (first ++ r.prefix.0, r.prefix.1, ap (λ (z : List ℕ). first ++ z) r.prefix.2 ∙ sym (append_assoc first r.prefix.0 r.prefix.1), adds r.prefix.0 r.prefix.3);
   cause = λ e. rose_later before mid now le (r.cause e);
   later = omega (arith, le, r.later);
 }
 
 -- a write of all of them
-pub reaches_written : {T E : Type 0} (r : Result T E) (old new : Option (List ℕ)) (before now : ℕ) (bytes : List ℕ) → OnOk r (Appends old new bytes) → OnErr r (AppendsFront old new bytes) → HasCause before now r
+pub reaches_written : {T E : Type 0} (r : Result T E) (old new : Option (List ℕ)) (before now : ℕ) (bytes : List ℕ) → OnOk r (Appends old new bytes) → OnErr r (AppendsPrefix old new bytes) → HasCause before now r
     → Reaches (Appends old new) before now (is_ok r) bytes
 reaches_written (Ok x) old new before now bytes ok err cause = reaches_all (Appends old new) before now bytes cause.later ok
-reaches_written (Err x) old new before now bytes ok err cause = record { whole = λ e. absurd (cc); front = err; cause = λ e. cause.failed; later = cause.later }
+reaches_written (Err x) old new before now bytes ok err cause = record { whole = λ e. absurd (cc); prefix = err; cause = λ e. cause.failed; later = cause.later }

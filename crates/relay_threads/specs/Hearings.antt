@@ -7,7 +7,8 @@ use Rattle.pump_frame.specs.Readings.{Reading, Within, Stopped, is_stopped}
 use Rattle.pump_link.specs.Tells.{Draws}
 use Rattle.pump_link.specs.declared.link.Looked.{Looked}
 use Rattle.pump_link.specs.declared.link.Looked.TheVariants.{Byte, NotYet, Ended, Failed}
-use Rattle.relay_threads.specs.Heards.{Heard, Nothing as HeardNothing, Frame as HeardFrame, Bad as HeardBad, Ended as HeardEnded, Failed as HeardFailed}
+use Rattle.relay_threads.specs.Heards.{Heard, Nothing as HeardNothing, Frame as HeardFrame, Bad as HeardBad}
+use Rattle.relay_threads.specs.Heards.{Ended as HeardEnded, Failed as HeardFailed}
 
 -- A reading ends at the first of these: a frame is whole, no frame begins so, a look gives no byte,
 -- the other side is gone, a look fails, or 1042 bytes are read.
@@ -36,11 +37,11 @@ looks_in h = map Byte h.bytes ++ last_look h.ending
 
 -- Behind the held bytes of an unfinished frame the bytes are: the rest of the frame; bytes up to the
 -- first after which no frame begins so; or no end of the frame yet. As no spelling begins another
--- one, no front of them is a whole frame.
+-- one, no prefix of them is a whole frame.
 abbrev pub EndsSo : List ℕ → List ℕ → Ending → Type 0
 EndsSo held bytes (AtFrame f) = IsLawful f × (spelling f ≡ held ++ bytes)
-EndsSo held bytes AtBad = (front : List ℕ) × (byte : ℕ) × (bytes ≡ front ++ byte ∷ [])
-    × IsPartial (held ++ front) × (BeginsSpelling (held ++ bytes) → ⊥)
+EndsSo held bytes AtBad = (prefix : List ℕ) × (byte : ℕ) × (bytes ≡ prefix ++ byte ∷ [])
+    × IsPartial (held ++ prefix) × (BeginsSpelling (held ++ bytes) → ⊥)
 EndsSo held bytes AtMost = IsPartial (held ++ bytes) × (length bytes ≡ 1042)
 EndsSo held bytes _ = IsPartial (held ++ bytes)
 

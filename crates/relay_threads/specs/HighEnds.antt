@@ -1,6 +1,8 @@
 -- What a high worker does at its end of the passage. Rounds and stays have their newest first, all other
 -- lists their oldest.
-use Rattle.std.specs.Prelude.{◌≡◌, ℕ, ◌+◌, ◌-◌, ◌≤◌, Bool, true, false, List, [], ◌∷◌, ◌++◌, length, slice_get, flat_map, count_by, Option, Some, None, is_none, option_map, option_to_list, Result, Ok, Err}
+use Rattle.std.specs.Prelude.{◌≡◌, ℕ, ◌+◌, ◌-◌, ◌≤◌, Bool, true, false, List, [], ◌∷◌, ◌++◌, length, slice_get}
+use Rattle.std.specs.Prelude.{flat_map, count_by, Option, Some, None, is_none, option_map, option_to_list, Result, Ok}
+use Rattle.std.specs.Prelude.{Err}
 use Rattle.pump_frame.specs.declared.frame.Frame.{Frame}
 use Rattle.pump_frame.specs.declared.frame.Item.{Item}
 use Rattle.pump_frame.specs.declared.row.SessionRow.{SessionRow}
@@ -60,7 +62,8 @@ misses answers = count_by (λ x. is_none x) answers
 
 -- The end, which stood for h, stands now for one that has taken up the payloads of these answers and tried
 -- in vain for each other answer, and has published just the times by which the past grew from t to u.
-pub record HasTaken (now : Low → High → Type 0) (l : Low) (h : High) (t u : ProcessPast) (answers : List (Option (List ℕ))) : Type 0 where
+pub record HasTaken (now : Low → High → Type 0) (l : Low) (h : High) (t u : ProcessPast)
+    (answers : List (Option (List ℕ))) : Type 0 where
   pub high : High
   pub stands : now l high
   pub taken : payloads high.taken ≡ payloads h.taken ++ given answers
@@ -71,24 +74,32 @@ pub record HasTaken (now : Low → High → Type 0) (l : Low) (h : High) (t u : 
 
 -- .. whatever the end stood for, beside any low end, with a process that fits it and stood for any past,
 -- which became `past` of it
-abbrev pub TakesBy : {E : Type 0} → (E → Low → High → Type 0) → E → E → HighProcess → HighProcess → (ProcessPast → ProcessPast) → (ProcessPast → List (Option (List ℕ))) → Type 0
-TakesBy stands old new p q past answers = (l : Low) (h : High) (t : ProcessPast) → StandsFitting (stands old) p l h → StandsFor p t
+abbrev pub TakesBy : {E : Type 0} → (E → Low → High → Type 0) → E → E → HighProcess → HighProcess
+    → (ProcessPast → ProcessPast) → (ProcessPast → List (Option (List ℕ))) → Type 0
+TakesBy stands old new p q past answers = (l : Low) (h : High) (t : ProcessPast) → StandsFitting (stands old) p l h
+    → StandsFor p t
     → HasTaken (StandsFitting (stands new) q) l h t (past t) (answers t)
 
 -- one look, or none
-abbrev pub LookTakes : {E : Type 0} → (E → Low → High → Type 0) → E → E → HighProcess → HighProcess → ℕ → Option Made → Type 0
-LookTakes stands old new p q m made = TakesBy stands old new p q (λ t. past_after (row_of p) t m made) (λ t. answer_made (row_of p) t m made)
+abbrev pub LookTakes : {E : Type 0} → (E → Low → High → Type 0) → E → E → HighProcess → HighProcess → ℕ → Option Made
+    → Type 0
+LookTakes stands old new p q m made = TakesBy stands old new p q (λ t. past_after (row_of p) t m made)
+    (λ t. answer_made (row_of p) t m made)
 
 -- these rounds
 abbrev pub TakesSo : {E : Type 0} → (E → Low → High → Type 0) → E → E → HighProcess → HighProcess → List Round → Type 0
-TakesSo stands old new p q rounds = TakesBy stands old new p q (λ t. served (row_of p) t rounds) (λ t. answers_in (row_of p) t rounds)
+TakesSo stands old new p q rounds = TakesBy stands old new p q (λ t. served (row_of p) t rounds)
+    (λ t. answers_in (row_of p) t rounds)
 
 -- one stay, and these
 abbrev pub StayTakes : {E L : Type 0} → (E → Low → High → Type 0) → E → E → HighProcess → HighProcess → Stay L → Type 0
-StayTakes stands old new p q x = TakesBy stands old new p q (λ t. stay_after (row_of p) t x) (λ t. answers_at_stay (row_of p) t x)
+StayTakes stands old new p q x = TakesBy stands old new p q (λ t. stay_after (row_of p) t x)
+    (λ t. answers_at_stay (row_of p) t x)
 
-abbrev pub StaysTake : {E L : Type 0} → (E → Low → High → Type 0) → E → E → HighProcess → HighProcess → List (Stay L) → Type 0
-StaysTake stands old new p q stays = TakesBy stands old new p q (λ t. stayed (row_of p) t stays) (λ t. answers_over (row_of p) t stays)
+abbrev pub StaysTake : {E L : Type 0} → (E → Low → High → Type 0) → E → E → HighProcess → HighProcess → List (Stay L)
+    → Type 0
+StaysTake stands old new p q stays = TakesBy stands old new p q (λ t. stayed (row_of p) t stays)
+    (λ t. answers_over (row_of p) t stays)
 
 -- ---- what is sent ----
 

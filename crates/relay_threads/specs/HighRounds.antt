@@ -1,5 +1,6 @@
 -- The rounds of a high worker on one connection, the newest first, and the rule that they keep.
-use Rattle.std.specs.Prelude.{◌≡◌, ℕ, ◌+◌, Bool, true, false, ◌||◌, if◌then◌else◌, List, [], ◌∷◌, ◌++◌, length, Option, Some, None, IfSome, is_some, Result, Ok, Err}
+use Rattle.std.specs.Prelude.{◌≡◌, ℕ, ◌+◌, Bool, true, false, ◌||◌, if◌then◌else◌, List, [], ◌∷◌, ◌++◌, length, Option}
+use Rattle.std.specs.Prelude.{Some, None, IfSome, is_some, Result, Ok, Err}
 use Rattle.std.specs.Result.{MatchResult}
 use Rattle.pump_frame.specs.declared.frame.Frame.{Frame}
 use Rattle.pump_frame.specs.declared.frame.Item.{Item}
@@ -14,9 +15,12 @@ use Rattle.high_process.specs.declared.values.Task.TheVariants.{Refuse, Remove, 
 use Rattle.high_process.specs.Tasks.{task_of, attaches_in, is_attach}
 use Rattle.high_process.specs.Past.{ProcessPast, begun, removed_in, published_in, sent_in, finished, wants}
 use Rattle.high_process.specs.Storing.{GivenBack}
-use Rattle.relay_threads.specs.Heards.{Heard, Nothing as HeardNothing, Frame as HeardFrame, Bad as HeardBad, Ended as HeardEnded, Failed as HeardFailed}
+use Rattle.relay_threads.specs.Heards.{Heard, Nothing as HeardNothing, Frame as HeardFrame, Bad as HeardBad}
+use Rattle.relay_threads.specs.Heards.{Ended as HeardEnded, Failed as HeardFailed}
 use Rattle.relay_threads.specs.declared.high_served.HighWhy.{HighWhy}
-use Rattle.relay_threads.specs.declared.high_served.HighWhy.TheVariants.{Gone, Bad, NotAttach, LinkFailed, Stopped, Device as DeviceFailed, Ahead as IsAhead, Behind as IsBehind}
+use Rattle.relay_threads.specs.declared.high_served.HighWhy.TheVariants.{Gone, Bad, NotAttach, LinkFailed, Stopped}
+use Rattle.relay_threads.specs.declared.high_served.HighWhy.TheVariants.{Device as DeviceFailed, Ahead as IsAhead}
+use Rattle.relay_threads.specs.declared.high_served.HighWhy.TheVariants.{Behind as IsBehind}
 use Rattle.relay_threads.specs.declared.high_round.Plan.{Plan}
 use Rattle.relay_threads.specs.declared.high_round.Plan.TheVariants.{End, Pass, Look}
 use Rattle.relay_threads.specs.Hearings.{Hearing, IsHearing, looks_in, heard_as, held_by}
@@ -138,16 +142,23 @@ with_hand t hand = record t { hand = hand }
 
 -- A look that did what its frame asks of this past. What comes into the hand is the next message, and
 -- where none is wanted the hand stays as it was.
-pub record IsDone (row : SessionRow) (t : ProcessPast) (m : ℕ) (hand : Option Item) (task : Task) (attaches : Bool) (look : HighLook) : Type 0 where
+pub record IsDone (row : SessionRow) (t : ProcessPast) (m : ℕ) (hand : Option Item) (task : Task) (attaches : Bool)
+    (look : HighLook) : Type 0 where
   pub stays : wants (begun task t m) ≡ false → hand ≡ (begun task t m).hand
   pub next : wants (begun task t m) ≡ true → IfSome hand (λ x. x.number ≡ (begun task t m).removed)
-  pub is : look ≡ record { removed = removed_in task t; published = published_in task t m; sent = sent_in row.resend attaches (with_hand (begun task t m) hand) m }
+  pub is : look ≡ record {
+    removed = removed_in task t;
+    published = published_in task t m;
+    sent = sent_in row.resend
+        attaches (with_hand (begun task t m) hand) m;
+  }
 
 -- the answer of a look, by what its frame asks: a refusal does nothing, and a removal may fail
 abbrev pub LooksBy : SessionRow → ProcessPast → ℕ → Option Item → Result HighLook HighFault → Task → Bool → Type 0
 LooksBy row t m hand result (Refuse e) attaches = result ≡ Err e
 LooksBy row t m hand result Keep attaches = MatchResult result (IsDone row t m hand Keep attaches) (λ e. ⊥)
-LooksBy row t m hand result Remove attaches = MatchResult result (IsDone row t m hand Remove attaches) (λ e. (n : ℕ) × (e ≡ Device n))
+LooksBy row t m hand result Remove attaches = MatchResult result (IsDone row t m hand Remove attaches) (λ e. (n : ℕ)
+    × (e ≡ Device n))
 
 -- one look at m after this past
 pub record IsLook (row : SessionRow) (t : ProcessPast) (m : ℕ) (x : Made) : Type 0 where
@@ -162,7 +173,8 @@ past_by row t m hand (Err e) task attaches = t
 
 abbrev pub past_after : SessionRow → ProcessPast → ℕ → Option Made → ProcessPast
 past_after row t m None = t
-past_after row t m (Some x) = past_by row t m x.hand x.result (task_of row.id t.removed t.hand x.frame) (attaches_in row.id x.frame)
+past_after row t m (Some x) = past_by row t m x.hand x.result (task_of row.id t.removed t.hand x.frame)
+    (attaches_in row.id x.frame)
 
 -- the past after these rounds
 abbrev pub served : SessionRow → ProcessPast → List Round → ProcessPast
@@ -200,7 +212,8 @@ pub record IsRound (row : SessionRow) (t : ProcessPast) (held : List ℕ) (is_at
   -- it reads up to one frame, bad bytes, nothing yet, the end, a failure or 1042 bytes
   pub reads : IsHearing held r.heard
   -- one look, with the round's moment and frame, but where the rule ends the round without one
-  pub makes : MakesLook row t r.moment (plan_of is_attached (heard_as r.heard.ending)) (frame_heard (heard_as r.heard.ending)) r.made
+  pub makes : MakesLook row t r.moment (plan_of is_attached (heard_as r.heard.ending))
+      (frame_heard (heard_as r.heard.ending)) r.made
 
 -- what ended the connection in the newest round
 abbrev pub newest_cause : List Round → Option HighWhy
@@ -215,4 +228,5 @@ GoOn (r ∷ past) = (cause (is_attached past) r ≡ None) × GoOn past
 -- each round is one, and none before the newest ended the connection
 abbrev pub AreRounds : SessionRow → ProcessPast → List Round → Type 0
 AreRounds row t [] = Unit {0}
-AreRounds row t (r ∷ past) = IsRound row (served row t past) (held_after past) (is_attached past) r × GoOn past × AreRounds row t past
+AreRounds row t (r ∷ past) = IsRound row (served row t past) (held_after past) (is_attached past) r × GoOn past
+    × AreRounds row t past

@@ -14,7 +14,8 @@ use Rattle.relay_threads.specs.declared.high_served.HighWhy.TheVariants.{Device,
 use Rattle.relay_threads.specs.declared.high_served.HighServed.{HighServed}
 use Rattle.relay_threads.specs.declared.high_round.HighConnection.{HighConnection}
 use Rattle.relay_threads.specs.Hearings.{IsHearing, Leaves, heard_as, held_in}
-use Rattle.relay_threads.specs.HighRounds.{Made, Round, cause, frame_heard, IsLook, MakesLook, past_after, plan_of, served, GoOn, AreRounds, newest_cause}
+use Rattle.relay_threads.specs.HighRounds.{Made, Round, cause, frame_heard, IsLook, MakesLook, past_after, plan_of}
+use Rattle.relay_threads.specs.HighRounds.{served, GoOn, AreRounds, newest_cause}
 
 -- a DATA of the session
 pub record IsData (session : ℕ) (f : Frame) : Type 0 where
@@ -41,9 +42,11 @@ pub record RoundMade (p q : HighProcess) (held : List ℕ) (now : Reading) (is_a
   pub reads : IsHearing held r.heard
   pub leaves : Leaves held r.heard.bytes r.heard.ending now
   pub makes : (t : ProcessPast) → StandsFor p t
-      → MakesLook (row_of p) t r.moment (plan_of is_attached (heard_as r.heard.ending)) (frame_heard (heard_as r.heard.ending)) r.made
+      → MakesLook (row_of p) t r.moment (plan_of is_attached (heard_as r.heard.ending))
+      (frame_heard (heard_as r.heard.ending)) r.made
   pub whole : cause is_attached r ≡ None → r.is_sent ≡ true
-  pub past : is_down q ≡ false → (t : ProcessPast) → StandsFor p t → StandsFor q (past_after (row_of p) t r.moment r.made)
+  pub past : is_down q ≡ false → (t : ProcessPast) → StandsFor p t
+      → StandsFor q (past_after (row_of p) t r.moment r.made)
 
 -- the rounds keep the rule, and lead the process from p to q
 pub record Serves (p q : HighProcess) (rounds : List Round) : Type 0 where

@@ -15,9 +15,10 @@ use Rattle.high_process.specs.Looks.{StandsFor}
 use Rattle.relay_threads.specs.declared.high_served.HighWhy.{HighWhy}
 use Rattle.relay_threads.specs.declared.high_served.HighWhy.TheVariants.{LinkFailed, Device}
 use Rattle.relay_threads.specs.declared.rounds_end.RoundsEnd.{RoundsEnd}
-use Rattle.relay_threads.specs.declared.rounds_end.RoundsEnd.TheVariants.{Rounds, Device as DeviceBroke, RecordFailed as RecordBroke}
+use Rattle.relay_threads.specs.declared.rounds_end.RoundsEnd.TheVariants.{Rounds, Device as DeviceBroke}
+use Rattle.relay_threads.specs.declared.rounds_end.RoundsEnd.TheVariants.{RecordFailed as RecordBroke}
 use Rattle.relay_threads.specs.declared.rounds_end.Stayed.{Stayed}
-use Rattle.relay_threads.specs.Workers.{SendsFront, IsNobody}
+use Rattle.relay_threads.specs.Workers.{SendsPrefix, IsNobody}
 use Rattle.relay_threads.specs.HighRounds.{Round, AreRounds, served, looks_of_rounds, moments, data_sent, newest_cause}
 use Rattle.relay_threads.specs.HighServes.{all_sent, is_device, device_in}
 
@@ -68,10 +69,11 @@ stay_cause (Alone m answer) = None
 stay_cause (With m v) = newest_cause v.rounds
 
 -- the link that was given back tells its rounds: what it gave, and what it was sent. Its count rose where it failed
-abbrev pub TellsVisit : {L : Type 0} → (L → List Looked → Type 0) → (L → List ℕ → Type 0) → (L → ℕ) → ℕ → Stay L → Type 0
+abbrev pub TellsVisit : {L : Type 0} → (L → List Looked → Type 0) → (L → List ℕ → Type 0) → (L → ℕ) → ℕ → Stay L
+    → Type 0
 TellsVisit gives sent faults session (Alone m answer) = Unit {0}
 TellsVisit gives sent faults session (With m v) = Draws (gives v.came) (gives v.back) (looks_of_rounds v.rounds)
-    × SendsFront (sent v.came) (sent v.back) (all_sent v.rounds) (spellings (data_sent session v.rounds))
+    × SendsPrefix (sent v.came) (sent v.back) (all_sent v.rounds) (spellings (data_sent session v.rounds))
     × (newest_cause v.rounds ≡ Some LinkFailed → Rose (faults v.came) (faults v.back))
 
 -- the connection, if there was one, is over, and the worker goes on

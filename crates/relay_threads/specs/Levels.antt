@@ -9,7 +9,8 @@ use Rattle.relay_ring.specs.PairRule.{IsAveraged}
 -- whatever such an end stands for, each average that it has read comes down of some times, as its passage
 -- averages them
 abbrev pub ReadsAverages : {E : Type 0} → (E → Low → High → Type 0) → (E → Shape) → Type 0
-ReadsAverages {E} stands shape = (e : E) (l : Low) (h : High) → stands e l h → All (λ p. IsAveraged (shape e).averaging p.1) l.pairs
+ReadsAverages {E} stands shape = (e : E) (l : Low) (h : High) → stands e l h
+    → All (λ p. IsAveraged (shape e).averaging p.1) l.pairs
 
 -- .. and this one's passage averages as the row says
 abbrev pub IsEndOf : {E : Type 0} → (E → Low → High → Type 0) → (E → Shape) → E → SessionRow → Type 0

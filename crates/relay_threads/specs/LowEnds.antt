@@ -41,10 +41,12 @@ fulls_in n (m ∷ before) = fulls_in n before ++ full_at (n + passed_in before) 
 -- what was forwarded, and then what is in the hand, is this and all that the life stored
 abbrev pub HasAll : SessionRow → Opening → List Made → List Item → List Item → Option Item → Type 0
 HasAll row o made first forwarded hand =
-    (parts : List Part) → IsCut row (life_made o made) parts → forwarded ++ option_to_list hand ≡ first ++ stored_in parts
+    (parts : List Part) → IsCut row (life_made o made) parts → forwarded ++ option_to_list hand
+    ≡ first ++ stored_in parts
 
 -- It stands now for a low end that did what these looks say, behind what it had done before.
-pub record HasDone (s : Shape) (now : Low → High → Type 0) (p q : LowProcess) (l : Low) (h : High) (made : List Made) : Type 0 where
+pub record HasDone (s : Shape) (now : Low → High → Type 0) (p q : LowProcess) (l : Low) (h : High) (made : List Made) :
+    Type 0 where
   pub low : Low
   pub stands : now low h
   -- it read their pairs; where the counts of its own never fell, none of all counts does
@@ -58,22 +60,28 @@ pub record HasDone (s : Shape) (now : Low → High → Type 0) (p q : LowProcess
   pub fulls : map (λ t. t.0) tries ≡ fulls_in (length l.forwarded) made
   pub full : All (λ t. t.0 ≡ t.1 + s.places) tries
   -- with the hand, it has what it had and all that was stored since, each in its turn
-  pub all : (o : Opening) (before : List Made) (first : List Item) → Lives p o before → HasAll (row_of p) o before first l.forwarded (hand_of p)
+  pub all : (o : Opening) (before : List Made) (first : List Item) → Lives p o before
+      → HasAll (row_of p) o before first l.forwarded (hand_of p)
       → HasAll (row_of q) o (made ++ before) first low.forwarded (hand_of q)
 
 -- whatever the end stood for, with a process that fits it, it did what these looks say since
-abbrev pub DoesSo : {E : Type 0} → (E → Low → High → Type 0) → (E → Shape) → E → E → LowProcess → LowProcess → List Made → Type 0
+abbrev pub DoesSo : {E : Type 0} → (E → Low → High → Type 0) → (E → Shape) → E → E → LowProcess → LowProcess → List Made
+    → Type 0
 DoesSo stands shape old new p q made =
-    (l : Low) (h : High) → StandsFitting (stands old) p l h → HasDone (shape old) (StandsFitting (stands new) q) p q l h made
+    (l : Low) (h : High) → StandsFitting (stands old) p l h
+    → HasDone (shape old) (StandsFitting (stands new) q) p q l h made
 
 -- ---- on the disk ----
 
 -- the disk stands for the last of the messages that were found and of those that the life stored
 abbrev pub HasStored : SessionRow → Opening → List Made → ℕ → List (List ℕ) → List ℕ → Type 0
 HasStored row o made first found disk =
-    (parts : List Part) → IsCut row (life_made o made) parts → StandsForLast row first (found ++ payloads (stored_in parts)) disk
+    (parts : List Part) → IsCut row (life_made o made) parts
+    → StandsForLast row first (found ++ payloads (stored_in parts)) disk
 
 -- a disk that stood so before these looks stands so after them, unless the process is down
 abbrev pub StoresSo : {D : Type 0} → Meaning D → LowStore D → LowStore D → LowProcess → LowProcess → List Made → Type 0
-StoresSo m old new p q made = m.tells → is_down q ≡ false → (o : Opening) (before : List Made) (first : ℕ) (found : List (List ℕ)) → Lives p o before
-    → HasStored (row_of p) o before first found (m.reading (low_disk old)) → HasStored (row_of q) o (made ++ before) first found (m.reading (low_disk new))
+StoresSo m old new p q made = m.tells → is_down q ≡ false
+    → (o : Opening) (before : List Made) (first : ℕ) (found : List (List ℕ)) → Lives p o before
+    → HasStored (row_of p) o before first found (m.reading (low_disk old))
+    → HasStored (row_of q) o (made ++ before) first found (m.reading (low_disk new))

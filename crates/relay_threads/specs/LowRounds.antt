@@ -1,6 +1,7 @@
 -- The rounds of a low worker on one connection, and the rule that they keep. A list of rounds, and one of
 -- looks, has its newest entry first; a list of what came in or went out has its oldest first.
-use Rattle.std.specs.Prelude.{◌≡◌, ℕ, ◌+◌, Bool, true, false, not, if◌then◌else◌, List, [], ◌∷◌, ◌++◌, length, Option, Some, None, IfSome, is_some}
+use Rattle.std.specs.Prelude.{◌≡◌, ℕ, ◌+◌, Bool, true, false, not, if◌then◌else◌, List, [], ◌∷◌, ◌++◌, length, Option}
+use Rattle.std.specs.Prelude.{Some, None, IfSome, is_some}
 use Rattle.std.specs.List.{AllByRecursion, flat_map}
 use Rattle.pump_frame.specs.declared.frame.Frame.{Frame}
 use Rattle.pump_frame.specs.declared.frame.Kind.{Kind}
@@ -15,7 +16,8 @@ use Rattle.pump_core.specs.Exchanges.{Part, IsCut}
 use Rattle.pump_core.specs.Comings.{may_take}
 use Rattle.relay_threads.specs.declared.low_round.LowWhy.{LowWhy}
 use Rattle.relay_threads.specs.declared.low_round.LowWhy.TheVariants as whys
-use Rattle.relay_threads.specs.Hearings.{Ending, AtFrame, AtBad, AtNotYet, AtEnded, AtFailed, AtMost, Hearing, IsHearing, looks_in, held_by}
+use Rattle.relay_threads.specs.Hearings.{Ending, AtFrame, AtBad, AtNotYet, AtEnded, AtFailed, AtMost, Hearing}
+use Rattle.relay_threads.specs.Hearings.{IsHearing, looks_in, held_by}
 use Rattle.relay_threads.specs.Records.{Made, life_made, replies_made}
 use Rattle.relay_threads.specs.Replays.{ReadsBack}
 
@@ -95,7 +97,8 @@ offered (Some h) = offered_at h.ending
 -- one look, at the round's moment, with its word and with this arrival; or none
 abbrev pub MakesLook : Round → Option Arrival → Type 0
 MakesLook r None = r.made ≡ None
-MakesLook r (Some a) = (m : Made) × (r.made ≡ Some m) × (m.look.moment ≡ r.moment) × (m.look.word ≡ r.word) × (m.look.arrival ≡ a)
+MakesLook r (Some a) = (m : Made) × (r.made ≡ Some m) × (m.look.moment ≡ r.moment) × (m.look.word ≡ r.word)
+    × (m.look.arrival ≡ a)
 
 -- why a round leaves the connection, by what it read
 abbrev pub cause_at : Ending → Option LowWhy
@@ -140,7 +143,8 @@ GoOn rounds = AllByRecursion (λ r. cause r ≡ None) rounds
 -- each is a round, and none but the newest left the connection
 abbrev pub AreRounds : SessionRow → Opening → List Made → List Round → Type 0
 AreRounds row o before [] = Unit {0}
-AreRounds row o before (r ∷ past) = IsRound row o (made_after before past) (held_after past) r × GoOn past × AreRounds row o before past
+AreRounds row o before (r ∷ past) = IsRound row o (made_after before past) (held_after past) r × GoOn past
+    × AreRounds row o before past
 
 -- why the newest round leaves the connection
 abbrev pub newest_cause : List Round → Option LowWhy

@@ -1,5 +1,6 @@
 -- What a low worker does on one connection, from the low process before it to the one after it.
-use Rattle.std.specs.Prelude.{◌≡◌, ℕ, ◌<◌, ◌≤◌, Bool, true, false, if◌then◌else◌, not, List, [], ◌∷◌, ◌++◌, length, Option, Some, None, IfSome, is_some}
+use Rattle.std.specs.Prelude.{◌≡◌, ℕ, ◌<◌, ◌≤◌, Bool, true, false, if◌then◌else◌, not, List, [], ◌∷◌, ◌++◌, length}
+use Rattle.std.specs.Prelude.{Option, Some, None, IfSome, is_some}
 use Rattle.pump_frame.specs.Counts.{Rose}
 use Rattle.pump_frame.specs.Spellings.{spelling}
 use Rattle.pump_frame.specs.declared.frame.Frame.{Frame}
@@ -18,7 +19,8 @@ use Rattle.relay_threads.specs.declared.low_round.LowWhy.{LowWhy}
 use Rattle.relay_threads.specs.declared.low_round.LowWhy.TheVariants as whys
 use Rattle.relay_threads.specs.declared.low_serving.LowServed.{LowServed}
 use Rattle.relay_threads.specs.Hearings.{Hearing, IsHearing, Leaves, heard_as}
-use Rattle.relay_threads.specs.LowRounds.{Round, with_look, made_after, looks_heard, IsRound, GoOn, AreRounds, newest_cause, ask_after, asks_of}
+use Rattle.relay_threads.specs.LowRounds.{Round, with_look, made_after, looks_heard, IsRound, GoOn, AreRounds}
+use Rattle.relay_threads.specs.LowRounds.{newest_cause, ask_after, asks_of}
 use Rattle.relay_threads.specs.RecordLines.{look_text}
 use Rattle.relay_threads.specs.Records.{Made, history_made, is_recorded, AreMade}
 
@@ -31,7 +33,8 @@ pub record Lives (p : LowProcess) (o : Opening) (made : List Made) : Type 0 wher
   pub are_made : AreMade (row_of p) o made
 
 -- From p to q, whatever looks p has lived: a rule is kept, and q has lived those after them.
-pub record Leads (p q : LowProcess) (Keeps : SessionRow → Opening → List Made → Type 0) (after : List Made → List Made) : Type 0 where
+pub record Leads (p q : LowProcess) (Keeps : SessionRow → Opening → List Made → Type 0) (after : List Made
+    → List Made) : Type 0 where
   pub row : row_of q ≡ row_of p
   pub rule : (o : Opening) (before : List Made) → Lives p o before → Keeps (row_of p) o before
   pub lives : (o : Opening) (before : List Made) → Lives p o before → Lives q o (after before)

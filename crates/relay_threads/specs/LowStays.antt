@@ -1,6 +1,7 @@
 -- The stays of a low worker at its door, the newest first. Each begins with a round without connection,
 -- which draws a moment and asks the door; where a link comes, it is served, and then given back.
-use Rattle.std.specs.Prelude.{◌≡◌, ℕ, ◌+◌, ◌<◌, ◌≤◌, Bool, true, false, if◌then◌else◌, List, [], ◌∷◌, ◌++◌, length, Option, Some, None, IfSome}
+use Rattle.std.specs.Prelude.{◌≡◌, ℕ, ◌+◌, ◌<◌, ◌≤◌, Bool, true, false, if◌then◌else◌, List, [], ◌∷◌, ◌++◌, length}
+use Rattle.std.specs.Prelude.{Option, Some, None, IfSome}
 use Rattle.std.specs.List.{AllByRecursion}
 use Rattle.pump_frame.specs.Counts.{Rose}
 use Rattle.pump_frame.specs.Rows.{IsLawfulRow}
@@ -14,14 +15,16 @@ use Rattle.low_process.specs.declared.process.LowProcess.{LowProcess}
 use Rattle.relay_threads.specs.declared.low_round.LowWhy.{LowWhy}
 use Rattle.relay_threads.specs.declared.low_round.LowWhy.TheVariants.{Bad, LinkFailed, Device, RecordFailed}
 use Rattle.relay_threads.specs.declared.rounds_end.RoundsEnd.{RoundsEnd}
-use Rattle.relay_threads.specs.declared.rounds_end.RoundsEnd.TheVariants.{Rounds, Device as DeviceBroke, RecordFailed as RecordBroke}
+use Rattle.relay_threads.specs.declared.rounds_end.RoundsEnd.TheVariants.{Rounds, Device as DeviceBroke}
+use Rattle.relay_threads.specs.declared.rounds_end.RoundsEnd.TheVariants.{RecordFailed as RecordBroke}
 use Rattle.relay_threads.specs.declared.rounds_end.Stayed.{Stayed}
 use Rattle.relay_threads.specs.Reaching.{Reaches}
 use Rattle.relay_threads.specs.Workers.{IsNobody}
 use Rattle.relay_threads.specs.Records.{Made, record_of}
 use Rattle.relay_threads.specs.RecordLines.{looks_text}
 use Rattle.relay_threads.specs.Replays.{ReadsBack}
-use Rattle.relay_threads.specs.LowRounds.{Round, with_look, made_after, made_in, looks_of_rounds, moments_of, words_of, reply_bytes, AreRounds, newest_cause}
+use Rattle.relay_threads.specs.LowRounds.{Round, with_look, made_after, made_in, looks_of_rounds, moments_of, words_of}
+use Rattle.relay_threads.specs.LowRounds.{reply_bytes, AreRounds, newest_cause}
 use Rattle.relay_threads.specs.LowServes.{Leads, all_sent, text_made}
 
 -- one link: as it came and as it was given back, the rounds on it, the look with Gone after them, if there
@@ -107,7 +110,8 @@ count_at (With m v) = 1 + length v.rounds
 abbrev pub TellsVisit : {L : Type 0} → (L → List Looked → Type 0) → (L → List ℕ → Type 0) → (L → ℕ) → Stay L → Type 0
 TellsVisit gives sent faults (Alone m answer) = Unit {0}
 TellsVisit gives sent faults (With m v) = Draws (gives v.came) (gives v.back) (looks_of_rounds v.rounds)
-    × Reaches (Grows (sent v.came) (sent v.back)) (faults v.came) (faults v.back) (all_sent v.rounds) (reply_bytes (made_in v.rounds))
+    × Reaches (Grows (sent v.came) (sent v.back)) (faults v.came) (faults v.back) (all_sent v.rounds)
+    (reply_bytes (made_in v.rounds))
     × (newest_cause v.rounds ≡ Some LinkFailed → Rose (faults v.came) (faults v.back))
 
 -- the worker's end at a link that was left for this, where the lines of the look with Gone were written
@@ -141,7 +145,8 @@ stayed before (x ∷ past) = stay_after (stayed before past) x
 -- each stay is one, and all before the newest are over
 abbrev pub AreStays : {L : Type 0} → SessionRow → Opening → List Made → List (Stay L) → Type 0
 AreStays row o before [] = Unit {0}
-AreStays row o before (x ∷ past) = IsStay row o (stayed before past) x × AllByRecursion IsOver past × AreStays row o before past
+AreStays row o before (x ∷ past) = IsStay row o (stayed before past) x × AllByRecursion IsOver past
+    × AreStays row o before past
 
 -- the stays keep their rule, and their looks go on with the life of the process
 abbrev pub StaysSo : {L : Type 0} → LowProcess → LowProcess → List (Stay L) → Type 0

@@ -1,6 +1,7 @@
 -- A record: the looks that are recorded, as a script of the low side alone. A list of looks has its newest
 -- look first, a script its oldest line.
-use Rattle.std.specs.Prelude.{◌≡◌, ℕ, Bool, true, false, ◌&&◌, ◌==◌, if◌then◌else◌, List, [], ◌∷◌, ◌++◌, Option, Some, None, option_map, codes, slice_index}
+use Rattle.std.specs.Prelude.{◌≡◌, ℕ, Bool, true, false, ◌&&◌, ◌==◌, if◌then◌else◌, List, [], ◌∷◌, ◌++◌, Option, Some}
+use Rattle.std.specs.Prelude.{None, option_map, codes, slice_index}
 use Rattle.pump_frame.specs.Averages.{averaging_of, average_of}
 use Rattle.pump_frame.specs.Frames.{IsLawful}
 use Rattle.pump_frame.specs.Spellings.{spelling}
@@ -61,7 +62,8 @@ tells_fault (Some reply) = is_refuse reply.kind && slice_index reply.payload 0 =
 abbrev pub line_of : SessionRow → Made → Line
 line_of row m =
     if is_gone m.look.arrival then lines.Gone row.id m.look.moment
-    else lines.Told row.id m.look.moment m.look.word (tells_fault m.reply) (told_of row m.look.feedback) (arriving_of (taken_by m))
+    else lines.Told row.id m.look.moment m.look.word (tells_fault m.reply) (told_of row m.look.feedback)
+    (arriving_of (taken_by m))
 
 -- the row without its ports, which no line has
 abbrev pub without_ports : SessionRow → SessionRow

@@ -1,6 +1,7 @@
 -- Records: of all looks that a low process made, those that decide its replies. Each list has its
 -- newest entry first, but for replies.
-use Rattle.std.specs.Prelude.{◌≡◌, ℕ, ◌≤◌, Bool, true, false, ◌&&◌, ◌||◌, not, if◌then◌else◌, List, [], ◌∷◌, ◌++◌, length, Option, is_some}
+use Rattle.std.specs.Prelude.{◌≡◌, ℕ, ◌≤◌, Bool, true, false, ◌&&◌, ◌||◌, not, if◌then◌else◌, List, [], ◌∷◌, ◌++◌}
+use Rattle.std.specs.Prelude.{length, Option, is_some}
 use Rattle.pump_frame.specs.declared.frame.Frame.{Frame}
 use Rattle.pump_frame.specs.declared.row.SessionRow.{SessionRow}
 use Rattle.pump_core.specs.declared.feedback.Feedback.{Feedback}
@@ -61,7 +62,8 @@ was_full (m ∷ before) = is_full m.look.feedback
 -- a look is recorded where it took an arrival, replied, passed a message on, or is the first that found
 -- the passage full for its message on its connection: the look before it did not
 abbrev pub is_recorded : List Made → Made → Bool
-is_recorded before m = m.taken || (is_some m.reply || (passes_on m.look.feedback || (is_full m.look.feedback && not (was_full before))))
+is_recorded before m = m.taken ||
+    (is_some m.reply || (passes_on m.look.feedback || (is_full m.look.feedback && not (was_full before))))
 
 -- a recorded look, with its number among all that were made, from 0
 pub record Shown : Type 0 where
@@ -70,7 +72,8 @@ pub record Shown : Type 0 where
 
 abbrev pub recorded : List Made → List Shown
 recorded [] = []
-recorded (m ∷ before) = if is_recorded before m then record { number = length before; made = m } ∷ recorded before else recorded before
+recorded (m ∷ before) = if is_recorded before m then record { number = length before; made = m } ∷ recorded before else
+    recorded before
 
 abbrev pub made_of : List Shown → List Made
 made_of [] = []

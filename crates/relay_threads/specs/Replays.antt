@@ -16,7 +16,8 @@ use Rattle.script_reader.specs.Openings.{Openings}
 use Rattle.script_reader.specs.Spelling.{line_spelling}
 use Rattle.script_reader.specs.Sessions.{Sessions, no_sessions, ScriptLeadsTo, ScriptStops, IsScriptTranscript}
 use Rattle.relay_threads.specs.Records.{Made, is_recorded, record_of, replies_made}
-use Rattle.relay_threads.specs.RecordLines.{taken_by, tells_fault, told_of, line_of, opening_line, coarse_lines, looks_script, record_script, HasLawfulFrame, IsReplyFrame}
+use Rattle.relay_threads.specs.RecordLines.{taken_by, tells_fault, told_of, line_of, opening_line, coarse_lines}
+use Rattle.relay_threads.specs.RecordLines.{looks_script, record_script, HasLawfulFrame, IsReplyFrame}
 
 -- ---- the connections of a life ----
 
@@ -89,7 +90,8 @@ pub record StopsAtLast (opens : Openings) (row : SessionRow) (o : Opening) (made
   pub recorded : record_of made ≡ last ∷ before
   pub sessions : Sessions
   pub first : List Event
-  pub leads : ScriptLeadsTo opens no_sessions (opening_line row o ∷ (coarse_lines row ++ looks_script row before)) sessions first
+  pub leads : ScriptLeadsTo opens no_sessions (opening_line row o ∷ (coarse_lines row ++ looks_script row before))
+      sessions first
   pub after : Sessions
   pub second : List Event
   pub stops : ScriptStops sessions (line_of row last) after second (Device row.id roles.Low)

@@ -6,10 +6,10 @@ use Rattle.pump_link.specs.Doors.{DoorStep, NoLink, FailedAccept}
 use Rattle.relay_threads.specs.declared.rounds_end.RoundsEnd.{RoundsEnd}
 use Rattle.relay_threads.specs.declared.rounds_end.RoundsEnd.TheVariants.{Device}
 
--- of a link that tells what was sent: a front of the bytes was sent, and all of them where `whole` holds
-abbrev pub SendsFront : (List ℕ → Type 0) → (List ℕ → Type 0) → Bool → List ℕ → Type 0
-SendsFront old new whole bytes = (front : List ℕ) × (rest : List ℕ) × (bytes ≡ front ++ rest)
-    × (whole ≡ true → rest ≡ []) × Grows old new front
+-- of a link that tells what was sent: a prefix of the bytes was sent, and all of them where `whole` holds
+abbrev pub SendsPrefix : (List ℕ → Type 0) → (List ℕ → Type 0) → Bool → List ℕ → Type 0
+SendsPrefix old new whole bytes = (prefix : List ℕ) × (rest : List ℕ) × (bytes ≡ prefix ++ rest)
+    × (whole ≡ true → rest ≡ []) × Grows old new prefix
 
 -- the door had no link for a round: a call of it that failed counts as one that found nobody
 abbrev pub IsNobody : {L : Type 0} → DoorStep L → Type 0

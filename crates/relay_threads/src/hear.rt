@@ -33,7 +33,8 @@ pub enum HeardHead {
 pub fn hear<C: Link>(link: &mut C, reader: &mut Reader, room: &mut Frame) -> HeardHead
     requires within { reader.old ≡ Within (held_in reader.old) }
     requires begun { HasBegun reader.old }
-    ensures heard { Hears (held_in reader.old) reader.new (C.gives link.old) (C.gives link.new) (heard_with room.new result) }
+    ensures heard { Hears (held_in reader.old) reader.new (C.gives link.old) (C.gives link.new)
+        (heard_with room.new result) }
     ensures lawful { IsLawfulHeard (heard_with room.new result) }
     ensures begun { HasBegun reader.new }
     ensures sent { Grows (C.sent link.old) (C.sent link.new) [] }

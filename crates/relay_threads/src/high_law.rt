@@ -15,8 +15,12 @@ use pump_link::Door;
 /// its number: `first` is that of the message in the hand, where there was one, and else of the first
 /// that its end of the passage gave; each later message that came has the next number.
 pub fn sends_what_came<P: Door>()
-    ensures rounds { (row : SessionRow) (first : ℕ) (hand : Option Item) (rounds : List Round) → AreRounds row (fresh first hand) rounds
-        → AllByRecursion (HasMessage first (messages_of hand (answers_in row (fresh first hand) rounds))) (data_sent row.id rounds) }
-    ensures stays { (row : SessionRow) (first : ℕ) (hand : Option Item) (stays : List (Stay P.Link)) → AreStays row (fresh first hand) stays
-        → AllByRecursion (HasMessage first (messages_of hand (answers_over row (fresh first hand) stays))) (data_over row.id stays) }
+    ensures rounds { (row : SessionRow) (first : ℕ) (hand : Option Item) (rounds : List Round)
+        → AreRounds row (fresh first hand) rounds
+        → AllByRecursion (HasMessage first (messages_of hand (answers_in row (fresh first hand) rounds)))
+        (data_sent row.id rounds) }
+    ensures stays { (row : SessionRow) (first : ℕ) (hand : Option Item) (stays : List (Stay P.Link))
+        → AreStays row (fresh first hand) stays
+        → AllByRecursion (HasMessage first (messages_of hand (answers_over row (fresh first hand) stays)))
+        (data_over row.id stays) }
 {}

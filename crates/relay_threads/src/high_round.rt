@@ -1,5 +1,6 @@
 // One round of the high worker on a connection.
-ghost use Rattle.std.specs.Prelude.{◌≡◌, ◌^◌, ◌<◌, ◌≤◌, ◌||◌, Bool, true, false, [], ◌∷◌, None, Some, IfSome, if◌then◌else◌};
+ghost use Rattle.std.specs.Prelude.{◌≡◌, ◌^◌, ◌<◌, ◌≤◌, ◌||◌, Bool, true, false, [], ◌∷◌, None, Some, IfSome};
+ghost use Rattle.std.specs.Prelude.{if◌then◌else◌};
 ghost use Rattle.pump_frame.specs.Counts.{Rose};
 ghost use Rattle.pump_frame.specs.declared.frame.Frame.{Frame as SentFrame};
 ghost use Rattle.pump_frame.specs.Readings.{Within, HasBegun};
@@ -12,8 +13,9 @@ ghost use Rattle.high_process.specs.States.{row_of, removed_of, hand_of, last_of
 ghost use Rattle.relay_threads.specs.declared.high_served.HighWhy.TheVariants.{LinkFailed};
 ghost use Rattle.relay_threads.specs.Heards.{heard_with};
 ghost use Rattle.relay_threads.specs.Hearings.{held_in, heard_as};
-ghost use Rattle.relay_threads.specs.Workers.{SendsFront};
-ghost use Rattle.relay_threads.specs.HighRounds.{Made, Round, plan_of, frame_heard, is_frame, why_of, removes, removes_by, looks_in_round, data_in, data_made, cause, cause_look};
+ghost use Rattle.relay_threads.specs.Workers.{SendsPrefix};
+ghost use Rattle.relay_threads.specs.HighRounds.{Made, Round, plan_of, frame_heard, is_frame, why_of, removes};
+ghost use Rattle.relay_threads.specs.HighRounds.{removes_by, looks_in_round, data_in, data_made, cause, cause_look};
 ghost use Rattle.relay_threads.specs.HighEnds.{LookTakes};
 ghost use Rattle.relay_threads.specs.HighServes.{IsData, IsOpen, LookMade, RoundMade, device_in, CountsFaultIn};
 
@@ -141,7 +143,7 @@ fn send_hand<C: Link>(
 ) -> bool
     requires message { IsData (row_of process.now).id message.old }
     requires number { IfSome look.now.sent (λ n. n ≡ removed_of process.now) }
-    ensures sent { SendsFront (C.sent link.old) (C.sent link.new) result
+    ensures sent { SendsPrefix (C.sent link.old) (C.sent link.new) result
         (spellings (data_in (row_of process.now).id look.now (hand_of process.now))) }
     ensures gives { Draws (C.gives link.old) (C.gives link.new) [] }
     ensures message { IsData (row_of process.now).id message.new }
@@ -180,7 +182,8 @@ fn look<R: Wait, C: Link, D: Disk, H: WaitHighEnd>(
     requires message { IsData (row_of process.old).id message.old }
     ensures look { (x : Made) × (is_sent : Bool)
         × LookMade process.old process.new moment (frame_of frame.entry) x
-        × SendsFront (C.sent link.old) (C.sent link.new) is_sent (spellings (data_made (row_of process.old).id (Some x)))
+        × SendsPrefix (C.sent link.old) (C.sent link.new) is_sent
+        (spellings (data_made (row_of process.old).id (Some x)))
         × (result.why ≡ cause_look x.result is_sent) × (result.has_removed ≡ removes_by x.result)
         × LookTakes H.stands ends.old ends.new process.old process.new moment (Some x) }
     ensures gives { Draws (C.gives link.old) (C.gives link.new) [] }
@@ -193,7 +196,8 @@ fn look<R: Wait, C: Link, D: Disk, H: WaitHighEnd>(
     ensures later { C.faults link.old ≤ C.faults link.new }
     ensures failed { result.why ≡ Some LinkFailed → Rose (C.faults link.old) (C.faults link.new) }
     ensures counts { D.told.count (high_disk store.old) ≤ D.told.count (high_disk store.new) }
-    ensures device { CountsFaultIn result.why (D.told.count (high_disk store.old)) (D.told.count (high_disk store.new)) }
+    ensures device { CountsFaultIn result.why (D.told.count (high_disk store.old))
+        (D.told.count (high_disk store.new)) }
 {
     match process.look_waiting(rt, moment, frame, store, ends) {
         Ok(look) => {
@@ -242,7 +246,8 @@ impl HighConnection {
         ensures round { (r : Round)
             × RoundMade process.old process.new (held_in self.old.reader) self.new.reader self.old.is_attached r
             × Draws (C.gives link.old) (C.gives link.new) (looks_in_round r)
-            × SendsFront (C.sent link.old) (C.sent link.new) r.is_sent (spellings (data_made (row_of process.old).id r.made))
+            × SendsPrefix (C.sent link.old) (C.sent link.new) r.is_sent
+            (spellings (data_made (row_of process.old).id r.made))
             × Draws (K.reads clock.old) (K.reads clock.new) (r.moment ∷ [])
             × (result.why ≡ cause self.old.is_attached r) × (result.has_removed ≡ removes r.made)
             × (self.new.is_attached ≡ (self.old.is_attached || is_frame (heard_as r.heard.ending)))
@@ -257,7 +262,8 @@ impl HighConnection {
         ensures later { C.faults link.old ≤ C.faults link.new }
         ensures failed { result.why ≡ Some LinkFailed → Rose (C.faults link.old) (C.faults link.new) }
         ensures counts { D.told.count (high_disk store.old) ≤ D.told.count (high_disk store.new) }
-        ensures device { CountsFaultIn result.why (D.told.count (high_disk store.old)) (D.told.count (high_disk store.new)) }
+        ensures device { CountsFaultIn result.why (D.told.count (high_disk store.old))
+            (D.told.count (high_disk store.new)) }
     {
         let moment = clock.moment();
         let heard = hear(link, &mut self.reader, &mut self.room);

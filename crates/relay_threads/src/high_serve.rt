@@ -7,7 +7,7 @@ ghost use Rattle.stable_buffer.specs.High.{high_disk};
 ghost use Rattle.high_process.specs.Ready.{Ready};
 ghost use Rattle.high_process.specs.States.{row_of, last_of, is_down};
 ghost use Rattle.relay_threads.specs.declared.high_served.HighWhy.TheVariants.{LinkFailed, Stopped};
-ghost use Rattle.relay_threads.specs.Workers.{SendsFront};
+ghost use Rattle.relay_threads.specs.Workers.{SendsPrefix};
 ghost use Rattle.relay_threads.specs.HighRounds.{Round, looks_of_rounds, moments, data_sent, asks_of};
 ghost use Rattle.relay_threads.specs.HighEnds.{TakesSo};
 ghost use Rattle.relay_threads.specs.HighServes.{Serves, IsServed, all_sent, is_device, CountsFault};
@@ -58,7 +58,8 @@ pub fn serve_high<R: Wait, C: Link, K: Clock, D: Disk, H: WaitHighEnd, G: Gate>(
     ensures served { (rounds : List Round) × Serves process.old process.new rounds
         × IsServed rounds looks result
         × Draws (C.gives link.old) (C.gives link.new) (looks_of_rounds rounds)
-        × SendsFront (C.sent link.old) (C.sent link.new) (all_sent rounds) (spellings (data_sent (row_of process.old).id rounds))
+        × SendsPrefix (C.sent link.old) (C.sent link.new) (all_sent rounds)
+        (spellings (data_sent (row_of process.old).id rounds))
         × Draws (K.reads clock.old) (K.reads clock.new) (moments rounds)
         × Grows (G.asked gate.old) (G.asked gate.new) (asks_of result.why rounds)
         × TakesSo H.stands ends.old ends.new process.old process.new rounds }

@@ -7,7 +7,9 @@ ghost use Rattle.high_process.specs.Ready.{Ready};
 ghost use Rattle.high_process.specs.States.{row_of, last_of, is_down};
 ghost use Rattle.relay_threads.specs.Workers.{CountsEnd};
 ghost use Rattle.relay_threads.specs.HighEnds.{StayTakes, StaysTake};
-ghost use Rattle.relay_threads.specs.HighStays.{Stay, StaySo, StaysSo, EndsStay, EndsStays, end_by, is_broken, steps_at, steps, answers_at, answers, moments_at, moments_in, TellsVisit};
+ghost use Rattle.relay_threads.specs.HighStays.{Stay, StaySo, StaysSo, EndsStay, EndsStays, end_by, is_broken};
+ghost use Rattle.relay_threads.specs.HighStays.{steps_at, steps, answers_at, answers, moments_at, moments_in};
+ghost use Rattle.relay_threads.specs.HighStays.{TellsVisit};
 
 use crate::gate::Open;
 use crate::high_serve::serve_high;

@@ -9,7 +9,8 @@ ghost use Rattle.pump_core.specs.Exchanges.{Part, IsCut};
 ghost use Rattle.pump_core.specs.Standing.{end_of};
 ghost use Rattle.relay_threads.specs.Records.{Made, AreMade, life_made, replies_made, record_of};
 ghost use Rattle.relay_threads.specs.LowStays.{Stay, AreStays, stayed};
-ghost use Rattle.relay_threads.specs.Replays.{TellLevels, TakeLawful, AreConnected, is_lost, IsReadable, AreReadable, Replays, StopsAtLast};
+ghost use Rattle.relay_threads.specs.Replays.{TellLevels, TakeLawful, AreConnected, is_lost, IsReadable, AreReadable};
+ghost use Rattle.relay_threads.specs.Replays.{Replays, StopsAtLast};
 ghost use Rattle.relay_threads.specs.RecordLines.{record_text, record_script};
 ghost use Rattle.script_reader.specs.Lines.{AreLines};
 ghost use Rattle.script_reader.specs.Openings.{Openings};
@@ -20,7 +21,8 @@ use pump_link::Door;
 /// They have all the replies, at their moments (`replies`), and end where the life ends: with as many
 /// messages stored, on a connection that is greeted or not, in the same phase (`end`).
 pub fn records_are_lives()
-    ensures life { (row : SessionRow) (o : Opening) (made : List Made) → AreMade row o made → AreMade row o (record_of made) }
+    ensures life { (row : SessionRow) (o : Opening) (made : List Made) → AreMade row o made
+        → AreMade row o (record_of made) }
     ensures replies { (made : List Made) → replies_made (record_of made) ≡ replies_made made }
     ensures end { (row : SessionRow) (o : Opening) (made : List Made) (parts fewer : List Part) → AreMade row o made
         → IsCut row (life_made o made) parts → IsCut row (life_made o (record_of made)) fewer
@@ -35,10 +37,14 @@ pub fn records_are_lives()
 /// a connection but its loss, as a reader of frames gives it; and where the session is coarse, each
 /// average that was told is a level, as a coarse passage gives it.
 pub fn records_replay()
-    ensures whole { (opens : Openings) (row : SessionRow) (o : Opening) (made : List Made) → IsLawfulRow row → AreMade row o made
-        → TellLevels row made → TakeLawful made → AreConnected made → is_lost (record_of made) ≡ false → Replays opens row o made }
-    ensures stopped { (opens : Openings) (row : SessionRow) (o : Opening) (made : List Made) → IsLawfulRow row → AreMade row o made
-        → TellLevels row made → TakeLawful made → AreConnected made → is_lost (record_of made) ≡ true → StopsAtLast opens row o made }
+    ensures whole { (opens : Openings) (row : SessionRow) (o : Opening) (made : List Made) → IsLawfulRow row
+        → AreMade row o made
+        → TellLevels row made → TakeLawful made → AreConnected made → is_lost (record_of made) ≡ false
+        → Replays opens row o made }
+    ensures stopped { (opens : Openings) (row : SessionRow) (o : Opening) (made : List Made) → IsLawfulRow row
+        → AreMade row o made
+        → TellLevels row made → TakeLawful made → AreConnected made → is_lost (record_of made) ≡ true
+        → StopsAtLast opens row o made }
 {}
 
 /// The bytes of a record are its script, each comment a line that is skipped, where each of its lines
@@ -52,9 +58,12 @@ pub fn records_are_scripts()
 /// is lawful (`lawful`), after bad bytes nothing more was taken of a connection but its loss
 /// (`connected`), and a reader of scripts reads each line that a record has of them (`readable`).
 pub fn stays_are_replayable<P: Door>()
-    ensures lawful { (row : SessionRow) (o : Opening) (stays : List (Stay P.Link)) → AreStays row o [] stays → TakeLawful (stayed [] stays) }
-    ensures connected { (row : SessionRow) (o : Opening) (stays : List (Stay P.Link)) → AreStays row o [] stays → AreMade row o (stayed [] stays)
+    ensures lawful { (row : SessionRow) (o : Opening) (stays : List (Stay P.Link)) → AreStays row o [] stays
+        → TakeLawful (stayed [] stays) }
+    ensures connected { (row : SessionRow) (o : Opening) (stays : List (Stay P.Link)) → AreStays row o [] stays
+        → AreMade row o (stayed [] stays)
         → AreConnected (stayed [] stays) }
-    ensures readable { (row : SessionRow) (o : Opening) (stays : List (Stay P.Link)) → IsLawfulRow row → AreStays row o [] stays
+    ensures readable { (row : SessionRow) (o : Opening) (stays : List (Stay P.Link)) → IsLawfulRow row
+        → AreStays row o [] stays
         → AllByRecursion (IsReadable row) (record_of (stayed [] stays)) }
 {}

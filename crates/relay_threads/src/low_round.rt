@@ -20,7 +20,8 @@ ghost use Rattle.relay_threads.specs.Replays.{TellsLevel};
 ghost use Rattle.relay_threads.specs.Records.{Made, was_full as full_before};
 ghost use Rattle.relay_threads.specs.RecordLines.{HasLawfulFrame};
 ghost use Rattle.relay_threads.specs.LowRounds.{Round, with_look, looks_heard, is_ack, is_ack_made, cause};
-ghost use Rattle.relay_threads.specs.LowServes.{Turns, LeavesIf, HearsIf, arrival_heard, is_failed, text_made, why_by, is_device_in, CountsFaultIn, bytes_of, bytes_made, full_after};
+ghost use Rattle.relay_threads.specs.LowServes.{Turns, LeavesIf, HearsIf, arrival_heard, is_failed, text_made, why_by};
+ghost use Rattle.relay_threads.specs.LowServes.{is_device_in, CountsFaultIn, bytes_of, bytes_made, full_after};
 
 use crate::hear::{HeardHead, hear};
 use crate::record::LookMade;
@@ -93,7 +94,8 @@ impl LowConnection {
 fn hear_if<C: Link>(wants: bool, link: &mut C, connection: &mut LowConnection) -> HeardHead
     requires within { connection.old.reader ≡ Within (held_in connection.old.reader) }
     requires begun { HasBegun connection.old.reader }
-    ensures heard { HearsIf wants (held_in connection.old.reader) connection.new.reader (C.gives link.old) (C.gives link.new) (heard_with connection.new.room result) }
+    ensures heard { HearsIf wants (held_in connection.old.reader) connection.new.reader (C.gives link.old)
+        (C.gives link.new) (heard_with connection.new.room result) }
     ensures lawful { IsLawfulHeard (heard_with connection.new.room result) }
     ensures begun { HasBegun connection.new.reader }
     ensures sent { Grows (C.sent link.old) (C.sent link.new) [] }
@@ -205,12 +207,15 @@ pub fn low_round<R: Wait, C: Link, K: Clock, W: Words, D: Disk, L: WaitLowEnd, O
     ensures turn { (r : Round) × Turns process.old process.new (held_in connection.old.reader) r
         × LeavesIf (held_in connection.old.reader) r.heard connection.new.reader
         × Draws (C.gives link.old) (C.gives link.new) (looks_heard r.heard)
-        × Reaches (Grows (C.sent link.old) (C.sent link.new)) (C.faults link.old) (C.faults link.new) r.is_sent (bytes_made r.made)
+        × Reaches (Grows (C.sent link.old) (C.sent link.new)) (C.faults link.old) (C.faults link.new) r.is_sent
+        (bytes_made r.made)
         × Draws (K.reads clock.old) (K.reads clock.new) (r.moment ∷ [])
         × Draws (W.gives words.old) (W.gives words.new) (r.word ∷ [])
         × ((before : List Made) → was_full ≡ full_before before
-        → Reaches (Appends (O.written tape.old) (O.written tape.new)) (O.faults tape.old) (O.faults tape.new) r.is_kept (text_made (row_of process.old) before r.made))
-        × (result.why ≡ cause r) × (result.is_full ≡ full_after was_full r.made) × (result.is_acked ≡ is_ack_made r.made)
+        → Reaches (Appends (O.written tape.old) (O.written tape.new)) (O.faults tape.old) (O.faults tape.new) r.is_kept
+        (text_made (row_of process.old) before r.made))
+        × (result.why ≡ cause r) × (result.is_full ≡ full_after was_full r.made)
+        × (result.is_acked ≡ is_ack_made r.made)
         × (IsEndOf L.stands L.shape ends.old (row_of process.old) → IfSome r.made (TellsLevel (row_of process.old)))
         × DoesSo L.stands L.shape ends.old ends.new process.old process.new (with_look r.made [])
         × StoresSo D.told store.old store.new process.old process.new (with_look r.made []) }

@@ -62,10 +62,12 @@ pub fn serve_low<R: Wait, C: Link, K: Clock, W: Words, D: Disk, L: WaitLowEnd, O
     requires order { last_of process.old ≤ K.floor clock.old }
     ensures served { (rounds : List Round) × Serves process.old process.new rounds × IsServed rounds looks result
         × Draws (C.gives link.old) (C.gives link.new) (looks_of_rounds rounds)
-        × Reaches (Grows (C.sent link.old) (C.sent link.new)) (C.faults link.old) (C.faults link.new) (all_sent rounds) (reply_bytes (made_in rounds))
+        × Reaches (Grows (C.sent link.old) (C.sent link.new)) (C.faults link.old) (C.faults link.new) (all_sent rounds)
+        (reply_bytes (made_in rounds))
         × Draws (K.reads clock.old) (K.reads clock.new) (moments_of rounds)
         × Draws (W.gives words.old) (W.gives words.new) (words_of rounds)
-        × Reaches (Appends (O.written tape.old) (O.written tape.new)) (O.faults tape.old) (O.faults tape.new) (all_kept rounds)
+        × Reaches (Appends (O.written tape.old) (O.written tape.new)) (O.faults tape.old) (O.faults tape.new)
+        (all_kept rounds)
         (looks_text (row_of process.old) (record_of (made_in rounds)))
         × Grows (G.asked gate.old) (G.asked gate.new) (asked_in rounds result.why)
         × (IsEndOf L.stands L.shape ends.old (row_of process.old) → TellLevels (row_of process.old) (made_in rounds))

@@ -1,5 +1,6 @@
 // The low worker at its door.
-ghost use Rattle.std.specs.Prelude.{◌≡◌, ℕ, ◌<◌, ◌≤◌, Bool, false, List, [], ◌∷◌, ◌++◌, Option, None, Some, if◌then◌else◌};
+ghost use Rattle.std.specs.Prelude.{◌≡◌, ℕ, ◌<◌, ◌≤◌, Bool, false, List, [], ◌∷◌, ◌++◌, Option, None, Some};
+ghost use Rattle.std.specs.Prelude.{if◌then◌else◌};
 ghost use Rattle.std.specs.List.{AllByRecursion};
 ghost use Rattle.std.specs.Io.KnownBytes.{Appends};
 ghost use Rattle.pump_frame.specs.Counts.{Rose};
@@ -10,16 +11,22 @@ ghost use Rattle.stable_buffer.specs.Low.{low_disk};
 ghost use Rattle.low_process.specs.Ready.{Ready};
 ghost use Rattle.low_process.specs.Looks.{row_of, last_of, is_down};
 ghost use Rattle.relay_threads.specs.declared.low_round.LowWhy.TheVariants.{LinkFailed};
-ghost use Rattle.relay_threads.specs.declared.rounds_end.RoundsEnd.TheVariants.{Rounds as RoundsMade, RecordFailed as RecordBroke};
+ghost use Rattle.relay_threads.specs.declared.rounds_end.RoundsEnd.TheVariants.{Rounds as RoundsMade};
+ghost use Rattle.relay_threads.specs.declared.rounds_end.RoundsEnd.TheVariants.{RecordFailed as RecordBroke};
 ghost use Rattle.relay_threads.specs.Levels.{IsEndOf};
 ghost use Rattle.relay_threads.specs.LowEnds.{DoesSo, StoresSo};
 ghost use Rattle.relay_threads.specs.Reaching.{Reaches};
 ghost use Rattle.relay_threads.specs.Workers.{CountsEnd};
 ghost use Rattle.relay_threads.specs.Records.{Made};
 ghost use Rattle.relay_threads.specs.Replays.{ReadsBack, TellsLevel, TellLevels};
-ghost use Rattle.relay_threads.specs.LowRounds.{Round, made_in, looks_of_rounds, moments_of, words_of, reply_bytes, newest_cause};
+ghost use Rattle.relay_threads.specs.LowRounds.{Round, made_in, looks_of_rounds, moments_of, words_of, reply_bytes};
+ghost use Rattle.relay_threads.specs.LowRounds.{newest_cause};
 ghost use Rattle.relay_threads.specs.LowServes.{Lives, Leads, all_sent, text_made};
-ghost use Rattle.relay_threads.specs.LowStays.{Stay, IsRecord, IsGone, IsVisit, visited, IsStay, stay_after, stayed, StaysSo, EndsVisit, EndsStay, EndsStays, moment_made, visit_text, is_kept_by, is_left_so, end_by, is_ended, steps_at, steps, answers_at, answers, moments_at, moments_in, words_at, words_in, text_at, text_in, TellsVisit};
+ghost use Rattle.relay_threads.specs.LowStays.{Stay, IsRecord, IsGone, IsVisit, visited, IsStay, stay_after, stayed};
+ghost use Rattle.relay_threads.specs.LowStays.{StaysSo, EndsVisit, EndsStay, EndsStays, moment_made, visit_text};
+ghost use Rattle.relay_threads.specs.LowStays.{is_kept_by, is_left_so, end_by, is_ended, steps_at, steps, answers_at};
+ghost use Rattle.relay_threads.specs.LowStays.{answers, moments_at, moments_in, words_at, words_in, text_at, text_in};
+ghost use Rattle.relay_threads.specs.LowStays.{TellsVisit};
 
 use crate::gate::Open;
 use crate::low_round::LowWhy;
@@ -48,9 +55,11 @@ fn leave<R: Wait, K: Clock, D: Disk, L: WaitLowEnd, O: Sink>(
     requires ready { Ready D.told process.old store.old (L.stands ends.old) }
     requires up { is_down process.old ≡ false }
     requires order { last_of process.old ≤ K.floor clock.old }
-    ensures leaves { (m : Made) × IsGone m × Leads process.old process.new (λ row o before. IsLawfulRow row → ReadsBack row before m) (λ before. m ∷ before)
+    ensures leaves { (m : Made) × IsGone m × Leads process.old process.new (λ row o before. IsLawfulRow row
+        → ReadsBack row before m) (λ before. m ∷ before)
         × Draws (K.reads clock.old) (K.reads clock.new) (m.look.moment ∷ [])
-        × Reaches (Appends (O.written tape.old) (O.written tape.new)) (O.faults tape.old) (O.faults tape.new) result (text_made (row_of process.old) [] (Some m))
+        × Reaches (Appends (O.written tape.old) (O.written tape.new)) (O.faults tape.old) (O.faults tape.new) result
+        (text_made (row_of process.old) [] (Some m))
         × (IsEndOf L.stands L.shape ends.old (row_of process.old) → TellsLevel (row_of process.old) m)
         × DoesSo L.stands L.shape ends.old ends.new process.old process.new (m ∷ [])
         × StoresSo D.told store.old store.new process.old process.new (m ∷ []) }
@@ -119,15 +128,19 @@ fn visit<R: Wait, C: Link, K: Clock, W: Words, D: Disk, L: WaitLowEnd, O: Sink, 
     requires up { is_down process.old ≡ false }
     requires order { last_of process.old ≤ K.floor clock.old }
     ensures visit { (rounds : List Round) × (gone : Option Made) × (is_kept : Bool)
-        × Leads process.old process.new (λ row o before. IsVisit row o before rounds gone) (λ before. visited before rounds gone)
+        × Leads process.old process.new (λ row o before. IsVisit row o before rounds gone) (λ before.
+        visited before rounds gone)
         × EndsVisit rounds is_kept most result
         × Draws (C.gives link.old) (C.gives link.new) (looks_of_rounds rounds)
-        × Reaches (Grows (C.sent link.old) (C.sent link.new)) (C.faults link.old) (C.faults link.new) (all_sent rounds) (reply_bytes (made_in rounds))
+        × Reaches (Grows (C.sent link.old) (C.sent link.new)) (C.faults link.old) (C.faults link.new) (all_sent rounds)
+        (reply_bytes (made_in rounds))
         × (newest_cause rounds ≡ Some LinkFailed → Rose (C.faults link.old) (C.faults link.new))
         × Draws (K.reads clock.old) (K.reads clock.new) (moments_of rounds ++ moment_made gone)
         × Draws (W.gives words.old) (W.gives words.new) (words_of rounds)
-        × Reaches (Appends (O.written tape.old) (O.written tape.new)) (O.faults tape.old) (O.faults tape.new) (is_kept_by result.end) (visit_text (row_of process.old) rounds gone)
-        × (IsEndOf L.stands L.shape ends.old (row_of process.old) → TellLevels (row_of process.old) (visited [] rounds gone))
+        × Reaches (Appends (O.written tape.old) (O.written tape.new)) (O.faults tape.old) (O.faults tape.new)
+        (is_kept_by result.end) (visit_text (row_of process.old) rounds gone)
+        × (IsEndOf L.stands L.shape ends.old (row_of process.old)
+        → TellLevels (row_of process.old) (visited [] rounds gone))
         × DoesSo L.stands L.shape ends.old ends.new process.old process.new (visited [] rounds gone)
         × StoresSo D.told store.old store.new process.old process.new (visited [] rounds gone) }
     ensures ready { Ready D.told process.new store.new (L.stands ends.new) }
@@ -174,14 +187,16 @@ fn stay<R: Wait, P: Door, K: Clock, W: Words, D: Disk, L: WaitLowEnd, O: Sink, V
     requires up { is_down process.old ≡ false }
     requires order { last_of process.old ≤ K.floor clock.old }
     requires some { 0 < most }
-    ensures stay { (x : Stay P.Link) × Leads process.old process.new (λ row o before. IsStay row o before x) (λ before. stay_after before x)
+    ensures stay { (x : Stay P.Link) × Leads process.old process.new (λ row o before. IsStay row o before x) (λ before.
+        stay_after before x)
         × EndsStay x most result
         × Grows (P.did door.old) (P.did door.new) (steps_at x)
         × Draws (P.gives door.old) (P.gives door.new) (answers_at x)
         × TellsVisit P.Link.gives P.Link.sent P.Link.faults x
         × Draws (K.reads clock.old) (K.reads clock.new) (moments_at x)
         × Draws (W.gives words.old) (W.gives words.new) (words_at x)
-        × Reaches (Appends (O.written tape.old) (O.written tape.new)) (O.faults tape.old) (O.faults tape.new) (is_kept_by result.end) (text_at (row_of process.old) x)
+        × Reaches (Appends (O.written tape.old) (O.written tape.new)) (O.faults tape.old) (O.faults tape.new)
+        (is_kept_by result.end) (text_at (row_of process.old) x)
         × (IsEndOf L.stands L.shape ends.old (row_of process.old) → TellLevels (row_of process.old) (stay_after [] x))
         × DoesSo L.stands L.shape ends.old ends.new process.old process.new (stay_after [] x)
         × StoresSo D.told store.old store.new process.old process.new (stay_after [] x) }
@@ -256,7 +271,8 @@ pub fn low_rounds<R: Wait, P: Door, K: Clock, W: Words, D: Disk, L: WaitLowEnd, 
         × AllByRecursion (TellsVisit P.Link.gives P.Link.sent P.Link.faults) stays
         × Draws (K.reads clock.old) (K.reads clock.new) (moments_in stays)
         × Draws (W.gives words.old) (W.gives words.new) (words_in stays)
-        × Reaches (Appends (O.written tape.old) (O.written tape.new)) (O.faults tape.old) (O.faults tape.new) (is_kept_by (Some result)) (text_in (row_of process.old) stays)
+        × Reaches (Appends (O.written tape.old) (O.written tape.new)) (O.faults tape.old) (O.faults tape.new)
+        (is_kept_by (Some result)) (text_in (row_of process.old) stays)
         × ((o : Opening) → Lives process.old o [] → IsRecord (row_of process.old) stays)
         × (IsEndOf L.stands L.shape ends.old (row_of process.old) → TellLevels (row_of process.old) (stayed [] stays))
         × DoesSo L.stands L.shape ends.old ends.new process.old process.new (stayed [] stays)

@@ -10,7 +10,9 @@ ghost use Rattle.script_reader.specs.Heads.{arriving_with, line_with, CanHold, C
 ghost use Rattle.script_reader.specs.Lawful.{IsLawfulLine};
 ghost use Rattle.script_reader.specs.Spelling.{line_spelling, line_text};
 ghost use Rattle.relay_threads.specs.Records.{Made, is_recorded as is_recorded_after, was_full as is_full_after};
-ghost use Rattle.relay_threads.specs.RecordLines.{told_of, taken_by, arriving_of, tells_fault as fault_in, line_of, opening_line, coarse_text, comment, look_text, made_by, HasLawfulFrame, IsReplyFrame};
+ghost use Rattle.relay_threads.specs.RecordLines.{told_of, taken_by, arriving_of, tells_fault as fault_in, line_of};
+ghost use Rattle.relay_threads.specs.RecordLines.{opening_line, coarse_text, comment, look_text, made_by};
+ghost use Rattle.relay_threads.specs.RecordLines.{HasLawfulFrame, IsReplyFrame};
 
 use arrayvec::ArrayVec;
 use low_process::{Arrival, LookHead};
@@ -45,7 +47,8 @@ fn tells_fault(reply: &Option<Reply>) -> bool
 /// Whether a look is recorded, where the look before it found the passage full or not: it took an
 /// arrival, replied, passed a message on, or is the first that found the passage full.
 pub fn is_recorded(made: &LookMade, was_full: bool) -> bool
-    ensures { (row : Row) (before : List Made) → was_full ≡ is_full_after before → result ≡ is_recorded_after before (made_by row made.now) }
+    ensures { (row : Row) (before : List Made) → was_full ≡ is_full_after before
+        → result ≡ is_recorded_after before (made_by row made.now) }
 {
     let passes_on = matches!(made.look.feedback, Feedback::Passed(_) | Feedback::Released);
     let is_full = matches!(made.look.feedback, Feedback::Full);
@@ -132,7 +135,9 @@ fn append_line_of<const N: usize>(
     requires frame { HasLawfulFrame (arrival_of made.now.arrival) }
     ensures text { into.new.items ≡ into.old.items ++ line_text (line_of row.now (made_by row.now made.now)) }
     ensures len { array_vec_len into.new ≤ array_vec_len into.old + 2400 }
-    ensures reads { IsLawfulLine (line_of row.now (made_by row.now made.now)) → IsLine (line_of row.now (made_by row.now made.now)) (line_spelling (line_of row.now (made_by row.now made.now))) }
+    ensures reads { IsLawfulLine (line_of row.now (made_by row.now made.now))
+        → IsLine (line_of row.now (made_by row.now made.now))
+        (line_spelling (line_of row.now (made_by row.now made.now))) }
 {
     let head = head_of(row, made, body);
     append_line(&head, body.as_slice(), into);
@@ -141,7 +146,8 @@ fn append_line_of<const N: usize>(
 // The comment of a reply.
 fn append_comment<const N: usize>(row: &SessionRow, made: &LookMade, into: &mut ArrayVec<u8, N>)
     requires { array_vec_len into.old + 258 ≤ N }
-    ensures { into.new.items ≡ into.old.items ++ comment row.now made.now.moment (option_map (frame_of row.now.id) made.now.look.reply) }
+    ensures { into.new.items ≡ into.old.items ++ comment row.now made.now.moment (option_map (frame_of row.now.id)
+        made.now.look.reply) }
 {
     let Some(reply) = made.look.reply else {
         return;
@@ -171,7 +177,9 @@ pub fn append_look<const N: usize>(
     ensures text { into.new.items ≡ into.old.items ++ look_text row.now (made_by row.now made.now) }
     ensures len { array_vec_len into.new ≤ array_vec_len into.old + 2700 }
     // What stands before the first line end is this line, so a reader of scripts gives it back.
-    ensures reads { IsLawfulLine (line_of row.now (made_by row.now made.now)) → IsLine (line_of row.now (made_by row.now made.now)) (line_spelling (line_of row.now (made_by row.now made.now))) }
+    ensures reads { IsLawfulLine (line_of row.now (made_by row.now made.now))
+        → IsLine (line_of row.now (made_by row.now made.now))
+        (line_spelling (line_of row.now (made_by row.now made.now))) }
     // .. and skips the comment behind it.
     ensures told { IfSome (made_by row.now made.now).reply IsReplyFrame }
 {
@@ -190,10 +198,12 @@ pub fn append_opening<const N: usize>(
     into: &mut ArrayVec<u8, N>,
 )
     requires room { array_vec_len into.old + 2400 ≤ N }
-    ensures text { into.new.items ≡ into.old.items ++ line_text (opening_line row.now (record { count = next; is_held = held })) }
+    ensures text { into.new.items ≡ into.old.items ++ line_text
+        (opening_line row.now (record { count = next; is_held = held })) }
     ensures len { array_vec_len into.new ≤ array_vec_len into.old + 2400 }
     ensures reads { IsLawfulLine (opening_line row.now (record { count = next; is_held = held }))
-        → IsLine (opening_line row.now (record { count = next; is_held = held })) (line_spelling (opening_line row.now (record { count = next; is_held = held }))) }
+        → IsLine (opening_line row.now (record { count = next; is_held = held }))
+        (line_spelling (opening_line row.now (record { count = next; is_held = held }))) }
 {
     let row = SessionRow {
         low_port: 0,

@@ -1,7 +1,7 @@
 // The lines of a record, written to a tape.
 ghost use Rattle.std.specs.Prelude.{◌≡◌, ◌≤◌, ◌^◌, List, IfSome, OnOk, OnErr, true};
 ghost use Rattle.std.specs.Io.KnownBytes.{Appends};
-ghost use Rattle.pump_link.specs.Causes.{AppendsFront, HasCause};
+ghost use Rattle.pump_link.specs.Causes.{AppendsPrefix, HasCause};
 ghost use Rattle.pump_core.specs.ReplyFrames.{IsLawfulReply};
 ghost use Rattle.pump_frame.specs.Rows.{IsLawfulRow};
 ghost use Rattle.low_process.specs.Looks.{arrival_of, IsInBounds};
@@ -26,8 +26,10 @@ pub fn write_opening<O: Sink>(
     next: u64,
     is_held: bool,
 ) -> Result<(), WriteFault>
-    ensures ok { OnOk result (Appends (O.written tape.old) (O.written tape.new) (first_text row.now (record { count = next; is_held = is_held }))) }
-    ensures err { OnErr result (AppendsFront (O.written tape.old) (O.written tape.new) (first_text row.now (record { count = next; is_held = is_held }))) }
+    ensures ok { OnOk result (Appends (O.written tape.old) (O.written tape.new)
+        (first_text row.now (record { count = next; is_held = is_held }))) }
+    ensures err { OnErr result (AppendsPrefix (O.written tape.old) (O.written tape.new)
+        (first_text row.now (record { count = next; is_held = is_held }))) }
     ensures cause { HasCause (O.faults tape.old) (O.faults tape.new) result }
     // A reader of scripts reads these lines.
     ensures reads { IsCount next is_held → BeginsReadable row.now (record { count = next; is_held = is_held }) }

@@ -16,21 +16,21 @@ word_put old new word put = record { items = put ∙ sym (append-nil (old ++ wor
 
 -- more fields behind a word and fields
 pub fields_put : (old middle new word : List ℕ) (fields more : List (List ℕ)) → IsBehind old middle word fields → new ≡ middle ++ behind more → IsBehind old new word (fields ++ more)
-fields_put old middle new word fields more front put = record {
+fields_put old middle new word fields more prefix put = record {
   items = put
-      ∙ ap (λ z. z ++ behind more) front.items
+      ∙ ap (λ z. z ++ behind more) prefix.items
       ∙ append_assoc (old ++ word) (behind fields) (behind more)
       ∙ ap (λ z. (old ++ word) ++ z) (sym (flat_map-append (λ field. 32 ∷ field) fields more));
 }
 
 -- one field more
 pub field_put : (old middle new word : List ℕ) (fields : List (List ℕ)) (field : List ℕ) → IsBehind old middle word fields → new ≡ middle ++ 32 ∷ field → IsBehind old new word (fields ++ field ∷ [])
-field_put old middle new word fields field front put =
-    fields_put old middle new word fields (field ∷ []) front (put ∙ ap (λ z. middle ++ 32 ∷ z) (sym (append-nil field)))
+field_put old middle new word fields field prefix put =
+    fields_put old middle new word fields (field ∷ []) prefix (put ∙ ap (λ z. middle ++ 32 ∷ z) (sym (append-nil field)))
 
 -- the line end
 pub end_put : (old middle new word : List ℕ) (fields : List (List ℕ)) → IsBehind old middle word fields → new ≡ middle ++ 10 ∷ [] → new ≡ old ++ line_with_end (word ∷ fields)
-end_put old middle new word fields front put =
+end_put old middle new word fields prefix put =
     put
-    ∙ ap (λ z. z ++ 10 ∷ []) (front.items ∙ append_assoc old word (behind fields) ∙ ap (λ z. old ++ z) (sym (spaced_behind word fields)))
+    ∙ ap (λ z. z ++ 10 ∷ []) (prefix.items ∙ append_assoc old word (behind fields) ∙ ap (λ z. old ++ z) (sym (spaced_behind word fields)))
     ∙ append_assoc old (spaced (word ∷ fields)) (10 ∷ [])

@@ -447,9 +447,9 @@ log_bound : (s : ℕ) (messages : List Payload) → s ≤ 64 → AllByRecursion 
 log_bound s [] le h = omega arith
 log_bound s (m ∷ messages) le h = omega (arith, h.0, le, log_bound s messages le h.1)
 
-short_front : (s : ℕ) (xs ys : List Payload) → AllByRecursion (λ m. length m ≤ s) (xs ++ ys) → AllByRecursion (λ m. length m ≤ s) xs
-short_front s [] ys h = tt
-short_front s (x ∷ xs) ys h = (h.0, short_front s xs ys h.1)
+short_prefix : (s : ℕ) (xs ys : List Payload) → AllByRecursion (λ m. length m ≤ s) (xs ++ ys) → AllByRecursion (λ m. length m ≤ s) xs
+short_prefix s [] ys h = tt
+short_prefix s (x ∷ xs) ys h = (h.0, short_prefix s xs ys h.1)
 
 short_at : (s : ℕ) (xs : List Payload) (k : ℕ) (x : Payload) → AllByRecursion (λ m. length m ≤ s) xs → slice_get xs k ≡ Some x → length x ≤ s
 short_at s [] k x h e = absurd (cc)
@@ -463,7 +463,7 @@ no_overfill row w d n before small c short few sent =
     let lawful = c.stays.lawful in
     let prefix = lawful.delivered.prefix in
     let received : AllByRecursion (λ m. length m ≤ row.message) w.received =
-    short_front row.message w.received prefix.0 (subst (AllByRecursion (λ m. length m ≤ row.message)) (sym prefix.1) short) in
+    short_prefix row.message w.received prefix.0 (subst (AllByRecursion (λ m. length m ≤ row.message)) (sym prefix.1) short) in
     let end = log_bound row.message w.received small received in
     let message = All-at (IsMessage w.removed w.accepted) w.sent (place w.sent 0) d lawful.bounded.sent (last_packet w.sent before d sent) in
     let size : length d.payload ≤ row.message = short_at row.message w.accepted d.number d.payload short message.payload in

@@ -1,9 +1,9 @@
 -- What a reader of one field gives.
-use Rattle.std.proofs.Common.{◌≡◌, ℕ, ◌*◌, ◌/◌, ◌^◌, ◌<◌, ◌≤◌, ◌⊎◌, ◌&&◌, Bool, true, false, cond, ltb, leb, List, [], ◌∷◌, Option, None, Some, Result, Ok, Err, IsSome, IfSome, ◌↔◌, length, get_or, take, codes, decimal, refl, sym, ap, ◌∙◌, subst, arith, inl, inr}
+use Rattle.std.proofs.Common.{length-take, ◌≡◌, ℕ, ◌*◌, ◌/◌, ◌^◌, ◌<◌, ◌≤◌, ◌⊎◌, ◌&&◌, Bool, true, false, cond, ltb, leb, List, [], ◌∷◌, Option, None, Some, Result, Ok, Err, IsSome, IfSome, ◌↔◌, length, get_or, take, codes, decimal, refl, sym, ap, ◌∙◌, subst, arith, inl, inr}
 use Rattle.std.proofs.lemmas.Bool.{cases_eq, false_from_ne_true, ltb-true, lt-ltb, leb-true, le-leb, and_parts}
 use Rattle.std.proofs.lemmas.Option.{cond_some, same_Some, some_pair_parts}
 use Rattle.std.proofs.lemmas.Slice.Eq.{bytes_eq-Decides}
-use Rattle.std.proofs.lemmas.Str.Parse.{IsNumeralModel, numerals_by_value, tells_digits, digit_at, digits_value-take-le}
+use Rattle.std.proofs.lemmas.Str.Parse.{IsNumeralModel, digits_value_short, numerals_by_value, tells_digits, digit_at, digits_value-take-le}
 use Rattle.std.proofs.lemmas.Fmt.{digits_decimal, digits_value-decimal, decimal-digits_value, decimal_nonempty, decimal_injective, first_decimal, decimal_digit}
 use Rattle.std.proofs.lemmas.Nat.{be_bytes_4, from_be_bytes-to_be_bytes_4}
 use Rattle.std.specs.Str.{bytes_eq}
@@ -101,6 +101,13 @@ number_fewer bound field fits none =
     let p = number_takes bound field n h in
     let again : number (2 ^ 64) field ≡ Some n = rw p.1 (number_again (2 ^ 64) n (omega (arith, p.0)) (omega arith)) in
     cc (sym none ∙ again))
+
+-- so few digits are below 2^64, and so are ten times those before the last
+pub few_digits : (field : List ℕ) (i : ℕ) → AllDigits 10 (take i field) → i ≤ 18 → digits_value 10 (take i field) < 10 ^ 18
+few_digits field i all few = digits_value_short own (take i field) 18 all (omega (arith, few, length-take i field))
+
+pub few_digits_whole : (field : List ℕ) → AllDigits 10 field → length field ≤ 19 → digits_value 10 field < 2 ^ 64
+few_digits_whole field all few = omega (arith, digits_value_short own field 19 all few)
 
 -- words
 word_ok : (r : Result (List ℕ) FromHexError) (n : ℕ) → word_from r ≡ Some n → (bytes : List ℕ) × (r ≡ Ok bytes) × (n ≡ from_be_bytes w32 bytes)

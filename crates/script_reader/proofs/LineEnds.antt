@@ -26,15 +26,15 @@ not_passing : (b : Bool) → (b ≡ true → ⊥) → b ≡ false
 not_passing true h = absurd (h refl)
 not_passing false h = refl
 
--- where a search finds a line end
-pub first_end : (xs : List ℕ) (r : Option ℕ) → IsFirstByte (is_byte 10) xs r → r ≡ position is_end xs
-first_end xs None none =
-    let all : position_or_len is_end xs ≡ length xs = position_or_len_is is_end xs (length xs) 0 (omega arith) (λ k low. not_passing (is_end (get_or xs k 0)) (none k (omega arith) low)) (λ low. absurd (omega (arith, low))) in
-    let test : ltb (position_or_len is_end xs) (length xs) ≡ false = le-ltb _ _ (omega (arith, all)) in
+-- where a search finds a byte first
+pub first_byte : (b : ℕ) (xs : List ℕ) (r : Option ℕ) → IsFirstByte (is_byte b) xs r → r ≡ position (is_byte b) xs
+first_byte b xs None none =
+    let all : position_or_len (is_byte b) xs ≡ length xs = position_or_len_is (is_byte b) xs (length xs) 0 (omega arith) (λ k low. not_passing (is_byte b (get_or xs k 0)) (none k (omega arith) low)) (λ low. absurd (omega (arith, low))) in
+    let test : ltb (position_or_len (is_byte b) xs) (length xs) ≡ false = le-ltb _ _ (omega (arith, all)) in
     rw test refl
-first_end xs (Some k) found =
-    let at : position_or_len is_end xs ≡ k = position_or_len_is is_end xs k 0 (omega (arith, found.0.high)) (λ j low. not_passing (is_end (get_or xs j 0)) (found.0.before j (omega arith) low)) (λ low. found.1) in
-    let test : ltb (position_or_len is_end xs) (length xs) ≡ true = lt-ltb _ _ (omega (arith, at, found.0.high)) in
+first_byte b xs (Some k) found =
+    let at : position_or_len (is_byte b) xs ≡ k = position_or_len_is (is_byte b) xs k 0 (omega (arith, found.0.high)) (λ j low. not_passing (is_byte b (get_or xs j 0)) (found.0.before j (omega arith) low)) (λ low. found.1) in
+    let test : ltb (position_or_len (is_byte b) xs) (length xs) ≡ true = lt-ltb _ _ (omega (arith, at, found.0.high)) in
     rw (test, at) refl
 
 pub ended : (xs : List ℕ) (i : ℕ) → position is_end xs ≡ Some i → IsUnended (take i xs) × (xs ≡ take i xs ++ 10 ∷ drop (i + 1) xs) × (i < length xs)
@@ -59,12 +59,12 @@ ten_not : (b : ℕ) → is_end b ≡ false → b ≡ 10 → ⊥
 ten_not b h e = both_ways (is_end b) h (eq-eqb b 10 e)
 
 -- a list has one first line
-pub one_front : (xs ys us vs : List ℕ) → IsUnended xs → IsUnended ys → xs ++ 10 ∷ us ≡ ys ++ 10 ∷ vs → (xs ≡ ys) × (us ≡ vs)
-one_front [] [] us vs p q e = (refl, cc)
-one_front [] (y ∷ ys) us vs p q e = absurd (ten_not y (All-head (λ b. is_end b ≡ false) y ys q) cc)
-one_front (x ∷ xs) [] us vs p q e = absurd (ten_not x (All-head (λ b. is_end b ≡ false) x xs p) cc)
-one_front (x ∷ xs) (y ∷ ys) us vs p q e =
-    let r = one_front xs ys us vs (All-tail (λ b. is_end b ≡ false) x xs p) (All-tail (λ b. is_end b ≡ false) y ys q) cc in
+pub one_prefix : (xs ys us vs : List ℕ) → IsUnended xs → IsUnended ys → xs ++ 10 ∷ us ≡ ys ++ 10 ∷ vs → (xs ≡ ys) × (us ≡ vs)
+one_prefix [] [] us vs p q e = (refl, cc)
+one_prefix [] (y ∷ ys) us vs p q e = absurd (ten_not y (All-head (λ b. is_end b ≡ false) y ys q) cc)
+one_prefix (x ∷ xs) [] us vs p q e = absurd (ten_not x (All-head (λ b. is_end b ≡ false) x xs p) cc)
+one_prefix (x ∷ xs) (y ∷ ys) us vs p q e =
+    let r = one_prefix xs ys us vs (All-tail (λ b. is_end b ≡ false) x xs p) (All-tail (λ b. is_end b ≡ false) y ys q) cc in
     (cc, r.1)
 
 nonempty : (xs ys : List ℕ) (y : ℕ) (more : List ℕ) → (xs ++ y ∷ ys) ++ more ≢ []
@@ -78,7 +78,7 @@ bad_line held bytes rest more e unended bad =
       some = rw e (nonempty bytes rest 10 more);
       bad = λ line bs rs h.
           let same : bytes ++ 10 ∷ (rest ++ more) ≡ bs ++ 10 ∷ rs = sym (append_assoc bytes (10 ∷ rest) more) ∙ ap (λ z. z ++ more) (sym e) ∙ h.whole in
-          let p = one_front bytes bs (rest ++ more) rs unended h.unended same in
+          let p = one_prefix bytes bs (rest ++ more) rs unended h.unended same in
           bad line (rw p.0 h.spelled);
     }
 
@@ -104,14 +104,14 @@ advanced cells start end len fits =
     let rest : end - start ≡ len + (end - (start + len)) = omega arith in
     rw (rest, drop-take len (end - (start + len)) (drop start cells), drop-drop len start cells) refl
 
-behind : (held front rest into : List ℕ) (len n : ℕ) → front ≡ held → length held ≡ len → n ≤ length into → take (len + n) (front ++ (into ++ rest)) ≡ held ++ take n into
-behind held front rest into len n e long few =
+behind : (held prefix rest into : List ℕ) (len n : ℕ) → prefix ≡ held → length held ≡ len → n ≤ length into → take (len + n) (prefix ++ (into ++ rest)) ≡ held ++ take n into
+behind held prefix rest into len n e long few =
     ap (λ z. take (len + n) (z ++ (into ++ rest))) e
     ∙ ap (λ k. take (k + n) (held ++ (into ++ rest))) (sym long)
     ∙ take-append-add held (into ++ rest) n
     ∙ ap (λ z. held ++ z) (take-append-le n into rest few)
 
--- what is held after it was moved to the front and bytes were read behind it
+-- what is held after it was moved to the prefix and bytes were read behind it
 pub held_more : (cells moved into : List ℕ) (start end n k : ℕ) → moved ≡ paste cells 0 (drop start cells) (end - start) → start ≤ end → end ≤ length cells → n ≤ length into
     → take (end - start + n) (put_mid (end - start) k moved into) ≡ take (end - start) (drop start cells) ++ take n into
 held_more cells moved into start end n k e order fits few =

@@ -24,7 +24,7 @@ use Rattle.script_reader.proofs.LookLaws.{look_takes, look_put, free_arriving}
 use Rattle.script_reader.proofs.MomentLaws.{coarse_takes, coarse_put, gone_takes, gone_put, high_takes, high_put, carry_takes, carry_put, return_takes, return_put, done_takes, done_put, restart_takes, restart_put, receiver_restart_takes, stepped_takes, stepped_put, receiver_restart_put}
 use Rattle.script_reader.proofs.ToldLaws.{told_takes, told_put, free_told}
 
--- the word at the front decides: the fields after it, or the next word
+-- the word at the prefix decides: the fields after it, or the next word
 by_word : (w text : List ℕ) (fields : List (List ℕ)) (line : Line) (here later : Option Line) → cond (bytes_eq w text) here later ≡ Some line
     → (here ≡ Some line → HasFields line (text ∷ fields)) → (later ≡ Some line → HasFields line (w ∷ fields)) → HasFields line (w ∷ fields)
 by_word w text fields line here later e same other =

@@ -6,7 +6,7 @@ use Rattle.script_reader.specs.declared.line.Line.{Line}
 use Rattle.script_reader.specs.declared.lines.Lined.{Lined}
 use Rattle.script_reader.specs.declared.lines.Lined.TheVariants as lined
 use Rattle.script_reader.specs.Lines.{LineReading, to_come, is_end, IsUnended, IsNextLine}
-use Rattle.script_reader.specs.Fronts.{IsFirst}
+use Rattle.script_reader.specs.Prefixes.{IsFirst}
 use Rattle.script_reader.proofs.LineEnds.{ended, ended_some, bad_line, line_come, bad_come, some_come, bad_last, end_come}
 
 line_next : (old now new : LineReading) (left rest : Option (List ℕ)) (line : Line) (len : ℕ)

@@ -8,7 +8,7 @@ use Rattle.script_reader.specs.Grammar.{IsLine}
 use Rattle.script_reader.specs.Lines.{AreLines, IsUnended}
 use Rattle.script_reader.specs.Scripts.{Running, RunningAlone, Begun, Whole, Alone, GoesWhole, GoesAlone, may_coarsen, Coarsens, Leads, LeadTo, IsRefused, IsTranscript}
 use Rattle.script_reader.specs.Faults.{IsFaultyBy, IsFaulty}
-use Rattle.script_reader.proofs.LineEnds.{one_front}
+use Rattle.script_reader.proofs.LineEnds.{one_prefix}
 use Rattle.script_reader.proofs.LineLaws.{one_line}
 use Rattle.script_reader.proofs.OneReading.{taken, not_nothing}
 use Rattle.pump_frame.specs.declared.row.SessionRow.{SessionRow}
@@ -141,7 +141,7 @@ module _ {S : Type 0} (Goes : S → Line → S → List Event → Type 0) (Refus
         | inl bad ↦ bad.bad line bytes left (record { unended = u; spelled = i; whole = e })
         | inr r ↦
             let t = taken rest r.2.0 r.2.1 r.2.4 in
-            let same = one_front bytes r.2.0 left t.0 u r.2.2 (sym e ∙ t.2) in
+            let same = one_prefix bytes r.2.0 left t.0 u r.2.2 (sym e ∙ t.2) in
             let line_is : line ≡ r.0 = one_line bytes line r.0 i (rw same.0 r.2.3) in
             refused s line mid printed (subst (λ l. Refuses s l) (sym line_is) r.3) h
       ]
@@ -160,7 +160,7 @@ module _ {S : Type 0} (Goes : S → Line → S → List Event → Type 0) (Refus
   both_end all rest (x ∷ xs) (y ∷ ys) from running after p h f q k =
       let t = taken all p.0 p.1 p.4 in
       let u = taken all q.0 q.1 q.4 in
-      let same = one_front p.0 q.0 t.0 u.0 p.2 q.2 (sym t.2 ∙ u.2) in
+      let same = one_prefix p.0 q.0 t.0 u.0 p.2 q.2 (sym t.2 ∙ u.2) in
       let first : x ≡ y = one_line q.0 x y (rw same.0 at p.3) q.3 in
       let left : AreLines (Some u.0) xs (Some rest) = rw (t.1, same.1) at p.5 in
       let right : AreLines (Some u.0) ys (Some []) = rw u.1 at q.5 in

@@ -93,7 +93,7 @@ script_transcript_one o script xs ys (a, c, l, h, end, e) (b, d, l', k, end', f)
     let y = all_end_one a.begun l l' end (subst (λ (u : Sessions). AllEnd u.begun l') (sym x.after) end') in
     e ∙ (λ i. x.printed i ++ y i) ∙ sym f
 
--- a front of the lines of a script, and the lines after it
+-- a prefix of the lines of a script, and the lines after it
 pub script_parts : (o : Openings) (t : Sessions) (before later : List Line) (u : Sessions) (printed : List Event) → ScriptLeadsTo o t (before ++ later) u printed
     → (mid : Sessions) × (first : List Event) × (second : List Event) × ScriptLeadsTo o t before mid first × ScriptLeadsTo o mid later u second × (printed ≡ first ++ second)
 script_parts o t [] later u printed h = (t, [], printed, (refl, refl), h, refl)

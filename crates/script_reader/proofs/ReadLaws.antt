@@ -5,7 +5,7 @@ use Rattle.pump_link.specs.Tells.{Draws}
 use Rattle.script_reader.specs.declared.lines.Lined.{Lined}
 use Rattle.script_reader.specs.declared.lines.Lined.TheVariants as lined
 use Rattle.script_reader.specs.Lines.{LineReading, is_end, IsSome, LineIsReady, AreNeeded, with_pieces, ReadsTo, LeavesHeld, ReadsOn}
-use Rattle.script_reader.specs.Fronts.{IsFirst}
+use Rattle.script_reader.specs.Prefixes.{IsFirst}
 use Rattle.script_reader.proofs.LineEnds.{ended, ended_some}
 use Rattle.script_reader.proofs.NextLaws.{is_empty}
 

@@ -128,13 +128,13 @@ sound_so o script after printed h = ⊎_elim (λ (l : LeadTo o None script after
 
 -- ---- at each line ----
 
--- a front of a list whose last element is split off
-abbrev pub Fronts : List Line → List Line → List Line → Line → Type 0
-Fronts before later lines line = (more : List Line) × (lines ≡ before ++ more)
+-- a prefix of a list whose last element is split off
+abbrev pub Prefixes : List Line → List Line → List Line → Line → Type 0
+Prefixes before later lines line = (more : List Line) × (lines ≡ before ++ more)
 
-pub front_of : (before : List Line) (x : Line) (later lines : List Line) (line : Line) → before ++ x ∷ later ≡ lines ++ line ∷ [] → Fronts before (x ∷ later) lines line
-front_of [] x later lines line e = (lines, refl)
-front_of (y ∷ before) x later [] line e = absurd (nothing_behind before x later (tail_is e))
+pub prefix_of : (before : List Line) (x : Line) (later lines : List Line) (line : Line) → before ++ x ∷ later ≡ lines ++ line ∷ [] → Prefixes before (x ∷ later) lines line
+prefix_of [] x later lines line e = (lines, refl)
+prefix_of (y ∷ before) x later [] line e = absurd (nothing_behind before x later (tail_is e))
   where
     tail_is : {a b : Line} {xs ys : List Line} → a ∷ xs ≡ b ∷ ys → xs ≡ ys
     tail_is e = cc
@@ -142,16 +142,16 @@ front_of (y ∷ before) x later [] line e = absurd (nothing_behind before x late
     nothing_behind : (xs : List Line) (x : Line) (ys : List Line) → xs ++ x ∷ ys ≡ [] → ⊥
     nothing_behind [] x ys e = absurd (cc)
     nothing_behind (a ∷ xs) x ys e = absurd (cc)
-front_of (y ∷ before) x later (z ∷ lines) line e =
-    let r = front_of before x later lines line cc in
+prefix_of (y ∷ before) x later (z ∷ lines) line e =
+    let r = prefix_of before x later lines line cc in
     let same : y ≡ z = cc in
     (r.0, (λ i. sym same i ∷ r.1 i))
 
--- each front of the lines was led to, or is all of them
-pub fronts_so : (o : Openings) (before : List Line) (x : Line) (later : List Line) (after : Option Begun) (printed : List Event) → ComesTo o (before ++ x ∷ later) after printed
+-- each prefix of the lines was led to, or is all of them
+pub prefixes_so : (o : Openings) (before : List Line) (x : Line) (later : List Line) (after : Option Begun) (printed : List Event) → ComesTo o (before ++ x ∷ later) after printed
     → (mid : Option Begun) × (first : List Event) × (second : List Event) × LeadTo o None before mid first × (printed ≡ first ++ second)
-fronts_so o before x later after printed (inl l) = let r = lead_parts o None before (x ∷ later) after printed l in (r.0, r.1, r.2, r.3, r.5)
-fronts_so o before x later after printed (inr s) =
-    let f = front_of before x later s.before s.line s.script_is in
+prefixes_so o before x later after printed (inl l) = let r = lead_parts o None before (x ∷ later) after printed l in (r.0, r.1, r.2, r.3, r.5)
+prefixes_so o before x later after printed (inr s) =
+    let f = prefix_of before x later s.before s.line s.script_is in
     let r = lead_parts o None before f.0 s.running s.first (subst (λ (ls : List Line). LeadTo o None ls s.running s.first) f.1 s.leads) in
     (r.0, r.1, r.2 ++ s.last, r.3, s.printed_is ∙ ap (λ xs. xs ++ s.last) r.5 ∙ append_assoc r.1 r.2 s.last)

@@ -117,7 +117,7 @@ stops_one (Some (Alone s)) line after other xs ys fault stop (timely, (q, h, f, 
 
 -- ---- in a script ----
 
--- a front of the lines of a script, and the lines after it
+-- a prefix of the lines of a script, and the lines after it
 pub lead_parts : (o : Openings) (running : Option Begun) (before later : List Line) (after : Option Begun) (printed : List Event) → LeadTo o running (before ++ later) after printed
     → (mid : Option Begun) × (first : List Event) × (second : List Event) × LeadTo o running before mid first × LeadTo o mid later after second × (printed ≡ first ++ second)
 lead_parts o running [] later after printed h = (running, [], printed, (refl, refl), h, refl)

@@ -16,10 +16,10 @@ counting_more (suc n) from =
     let e : (from + 1 + n) % 256 ≡ (from + suc n) % 256 = ap (λ x. x % 256) (omega arith) in
     ap (λ r. from % 256 ∷ r) (counting_more n (from + 1) ∙ ap (λ x. counting n (from + 1) ++ x ∷ []) e)
 
-pub counting_front : (n m from : ℕ) → n ≤ m → take n (counting m from) ≡ counting n from
-counting_front zero m from le = refl
-counting_front (suc n) zero from le = absurd (omega (arith, le))
-counting_front (suc n) (suc m) from le = ap (λ r. from % 256 ∷ r) (counting_front n m (from + 1) (omega (arith, le)))
+pub counting_prefix : (n m from : ℕ) → n ≤ m → take n (counting m from) ≡ counting n from
+counting_prefix zero m from le = refl
+counting_prefix (suc n) zero from le = absurd (omega (arith, le))
+counting_prefix (suc n) (suc m) from le = ap (λ r. from % 256 ∷ r) (counting_prefix n m (from + 1) (omega (arith, le)))
 
 -- the first of the takings that are left
 pub taking_first : (count number n : ℕ) (at : Mark) → 0 < n

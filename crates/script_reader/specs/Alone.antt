@@ -1,6 +1,7 @@
 -- A low side alone, to which a script tells what the passage answers: what it has been through, and
 -- what a line does to it.
-use Rattle.std.specs.Prelude.{◌≡◌, ◌⊎◌, ℕ, ◌<◌, ◌≤◌, Bool, true, false, ◌&&◌, ◌||◌, ◌==◌, not, nat_le, if◌then◌else◌, List, [], ◌∷◌, ◌++◌, length, drop}
+use Rattle.std.specs.Prelude.{◌≡◌, ◌⊎◌, ℕ, ◌<◌, ◌≤◌, Bool, true, false, ◌&&◌, ◌||◌, ◌==◌, not, nat_le, if◌then◌else◌}
+use Rattle.std.specs.Prelude.{List, [], ◌∷◌, ◌++◌, length, drop}
 use Rattle.pump_frame.specs.Averages.{level, averaging_of, average_of}
 use Rattle.pump_frame.specs.Readings.{Reading, Within}
 use Rattle.pump_frame.specs.declared.row.SessionRow.{SessionRow}
@@ -10,7 +11,8 @@ use Rattle.pump_core.specs.declared.feedback.Feedback.TheVariants as feedbacks
 use Rattle.pump_core.specs.History.{Arrival}
 use Rattle.pump_core.specs.History.{Came, Gone}
 use Rattle.pump_core.specs.History.{Look, Opening, History, first_life, looked}
-use Rattle.pump_core.specs.Exchanges.{is_gone, is_next, Part, Holding, Offering, Dropped, count_after, greeted_after, IsCut}
+use Rattle.pump_core.specs.Exchanges.{is_gone, is_next, Part, Holding, Offering, Dropped, count_after, greeted_after}
+use Rattle.pump_core.specs.Exchanges.{IsCut}
 use Rattle.pump_core.specs.Comings.{may_take}
 use Rattle.pump_core.specs.Replies.{Sent, LowReplies, takes, stores}
 use Rattle.script_reader.specs.declared.event.Event.{Event}
@@ -18,7 +20,8 @@ use Rattle.script_reader.specs.declared.line.Line.{Line}
 use Rattle.script_reader.specs.declared.line.Line.TheVariants as lines
 use Rattle.script_reader.specs.declared.line.ToldFeedback.{ToldFeedback}
 use Rattle.script_reader.specs.declared.line.ToldFeedback.TheVariants.{Quiet, Full, Pair}
-use Rattle.script_reader.specs.Lows.{first_of, is_bad, is_owed, comes_again, printed_store, printed_feedback, printed_replies}
+use Rattle.script_reader.specs.Lows.{first_of, is_bad, is_owed, comes_again, printed_store, printed_feedback}
+use Rattle.script_reader.specs.Lows.{printed_replies}
 use Rattle.script_reader.specs.Steps.{LineComing, Arrives}
 
 -- what a low side alone has been through
@@ -103,7 +106,8 @@ begins_store row o before a = may_take o before && comes_next row (count_after o
 
 -- the look x, which is told this, leads from p to q, and prints this; its store fails exactly where the
 -- disk is armed
-pub record IsToldLook (row : SessionRow) (p : PastAlone) (told : ToldFeedback) (x : Look) (q : PastAlone) (printed : List Event) : Type 0 where
+pub record IsToldLook (row : SessionRow) (p : PastAlone) (told : ToldFeedback) (x : Look) (q : PastAlone)
+    (printed : List Event) : Type 0 where
   -- the life without the look and with it, cut into exchanges
   pub before : List Part
   pub cut : IsCut row p.history.life before
@@ -158,7 +162,8 @@ tells_level row Full = true
 
 -- the line is one for a low side alone, names this session, no moment falls, and a coarse session is told a level
 abbrev pub is_apt_alone : SessionRow → PastAlone → Line → Bool
-is_apt_alone row p (lines.Told session m w fault told a) = session == row.id && (nat_le p.moment m && tells_level row told)
+is_apt_alone row p (lines.Told session m w fault told a) = session == row.id && (nat_le p.moment m && tells_level row
+    told)
 is_apt_alone row p (lines.Gone session m) = session == row.id && nat_le p.moment m
 is_apt_alone row p _ = false
 
@@ -175,6 +180,8 @@ IsRefusedAlone row p line = (is_apt_alone row p line ≡ false) ⊎ IsCrowdedAlo
 -- the line leads from p to q and prints this, and the disk fails in it or not
 abbrev pub StepAlone : SessionRow → PastAlone → Line → Bool → PastAlone → List Event → Type 0
 StepAlone row p (lines.Told session m w fault told a) is_fault q printed =
-    (c : LineComing) × Arrives session p.reading a c × IsOfferedTold row (joined_alone p fault c) m w told is_fault q printed
-StepAlone row p (lines.Gone session m) is_fault q printed = IsToldAt row (lost_alone p) m 0 Quiet Gone is_fault q printed
+    (c : LineComing) × Arrives session p.reading a c
+    × IsOfferedTold row (joined_alone p fault c) m w told is_fault q printed
+StepAlone row p (lines.Gone session m) is_fault q printed = IsToldAt row (lost_alone p) m 0 Quiet Gone is_fault q
+    printed
 StepAlone row p _ is_fault q printed = ⊥

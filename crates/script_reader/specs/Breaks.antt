@@ -1,5 +1,6 @@
 -- A line of a whole session that the device of a disk cuts short: its last event stays unfinished.
-use Rattle.std.specs.Prelude.{◌≡◌, ℕ, ◌+◌, ◌≤◌, true, false, List, [], ◌∷◌, ◌++◌, length, drop, slice_get, Option, None, Some}
+use Rattle.std.specs.Prelude.{◌≡◌, ℕ, ◌+◌, ◌≤◌, true, false, List, [], ◌∷◌, ◌++◌, length, drop, slice_get, Option, None}
+use Rattle.std.specs.Prelude.{Some}
 use Rattle.disk_model.specs.declared.name.Role.{Role}
 use Rattle.disk_model.specs.declared.name.Role.TheVariants as roles
 use Rattle.pump_frame.specs.declared.frame.Frame.{Frame}
@@ -40,7 +41,13 @@ pub record IsLostLook (row : SessionRow) (p : Past) (x : Look) (q : Past) (print
 -- so does a look that is offered what waits
 abbrev pub IsLost : SessionRow → Past → ℕ → ℕ → Past → List Event → Type 0
 IsLost row p m w q printed =
-    IsLostLook row p (record { moment = m; word = w; arrival = first_of p.is_broken p.waits; is_fault = true; feedback = Quiet }) q printed
+    IsLostLook row p (record {
+      moment = m;
+      word = w;
+      arrival = first_of p.is_broken p.waits;
+      is_fault = true;
+      feedback = Quiet;
+    }) q printed
 
 -- a TAKEN comes back at m, and the high disk fails in the removal that is due
 pub record IsUnremoved (p : Past) (m : ℕ) (back : Option ℕ) (q : Past) : Type 0 where
@@ -70,13 +77,15 @@ abbrev pub BreaksOff : SessionRow → Past → ℕ → Role → Past → List Ev
 BreaksOff row mid m roles.Low q printed = ⊥
 BreaksOff row mid m roles.Recv q printed = IsUntaken mid 0 q × (printed ≡ [])
 BreaksOff row mid m roles.High q printed =
-    (carried : Past) × IsCarried row mid 0 carried printed × IsUnremoved carried m (Some (place carried.world.returned 0)) q
+    (carried : Past) × IsCarried row mid 0 carried printed
+    × IsUnremoved carried m (Some (place carried.world.returned 0)) q
 
 -- the line begins what it does from p, and the disk of this role fails: q is what it has come to, with
 -- the last event unfinished, and this was printed. Where an opening fails, nothing has happened
 abbrev pub Breaks : SessionRow → Past → Line → Role → Past → List Event → Type 0
 Breaks row p (lines.Look session m w a) roles.Low q printed =
-    (c : LineComing) × Arrives session p.reading a c × (length (joined p c).waits ≤ 64) × IsLost row (joined p c) m w q printed
+    (c : LineComing) × Arrives session p.reading a c × (length (joined p c).waits ≤ 64)
+    × IsLost row (joined p c) m w q printed
 Breaks row p (lines.Carry session back) roles.Recv q printed = IsUntaken p back q × (printed ≡ [])
 Breaks row p (lines.Return session m back) roles.High q printed =
     IsUnremoved p m (Some (place p.world.returned back)) q × (printed ≡ [])
@@ -87,5 +96,6 @@ Breaks row p (lines.Restart session m) roles.Low q printed = (q ≡ p) × (print
 Breaks row p (lines.Restart session m) roles.High q printed = (q ≡ p) × (printed ≡ [])
 Breaks row p (lines.ReceiverRestart session m) roles.Recv q printed = (q ≡ p) × (printed ≡ [])
 Breaks row p (lines.ReceiverRestart session m) roles.High q printed =
-    (mid : Past) × IsReopened p mid × IsUnattached mid m q × (printed ≡ Attach row.id m (length mid.world.received) ∷ [])
+    (mid : Past) × IsReopened p mid × IsUnattached mid m q
+    × (printed ≡ Attach row.id m (length mid.world.received) ∷ [])
 Breaks row p _ _ q printed = ⊥

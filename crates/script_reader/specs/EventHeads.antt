@@ -4,7 +4,8 @@ use Rattle.pump_core.specs.ReplyFrames.{frame_of}
 use Rattle.script_reader.specs.declared.event.Event.{Event}
 use Rattle.script_reader.specs.declared.event.Event.TheVariants as events
 use Rattle.script_reader.specs.declared.event.EventHead.{EventHead}
-use Rattle.script_reader.specs.declared.event.EventHead.TheVariants.{Stored, Full, Passed, Released, Repeat, Low, Removed, Sent, Took, Again, Attach, Restart, End}
+use Rattle.script_reader.specs.declared.event.EventHead.TheVariants.{Stored, Full, Passed, Released, Repeat, Low}
+use Rattle.script_reader.specs.declared.event.EventHead.TheVariants.{Removed, Sent, Took, Again, Attach, Restart, End}
 
 -- the event, whose reply is a frame of its session
 abbrev pub event_of : EventHead → Event

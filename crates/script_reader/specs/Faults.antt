@@ -7,7 +7,8 @@ use Rattle.script_reader.specs.Sessions.{Sessions, ScriptRefuses}
 
 -- what is left of a script, where it is told, begins with no line, or with one that is refused
 abbrev pub IsFaultyBy : (Line → Type 0) → Option (List ℕ) → Type 0
-IsFaultyBy Refused rest = IfSome rest IsBad ⊎ ((line : Line) × (after : Option (List ℕ)) × AreLines rest (line ∷ []) after × Refused line)
+IsFaultyBy Refused rest = IfSome rest IsBad ⊎ ((line : Line) × (after : Option (List ℕ))
+    × AreLines rest (line ∷ []) after × Refused line)
 
 -- .. after the lines before it: in a script of one session, and in a whole script
 abbrev pub IsFaulty : Option (List ℕ) → Option Begun → Type 0

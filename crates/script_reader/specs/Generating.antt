@@ -6,8 +6,10 @@ use Rattle.script_reader.specs.Heads.{line_with, CanHoldLine}
 use Rattle.script_reader.specs.Lawful.{IsLawfulLine}
 use Rattle.script_reader.specs.declared.generator.Progress.{Progress}
 use Rattle.script_reader.specs.declared.generator.Turn.{Turn}
-use Rattle.script_reader.specs.declared.generator.Turn.TheVariants.{Session, Hello, Offer, Pass, Take, Taken, Acknowledge, Takings}
-use Rattle.script_reader.specs.Generated.{Mark, later, timed_by, takings, empty_look, early_lines, early, late_count, messages_from, first_hello, generated}
+use Rattle.script_reader.specs.declared.generator.Turn.TheVariants.{Session, Hello, Offer, Pass, Take, Taken}
+use Rattle.script_reader.specs.declared.generator.Turn.TheVariants.{Acknowledge, Takings}
+use Rattle.script_reader.specs.Generated.{Mark, later, timed_by, takings, empty_look, early_lines, early, late_count}
+use Rattle.script_reader.specs.Generated.{messages_from, first_hello, generated}
 
 -- the messages after this one, of so many in all
 abbrev pub rest_from : ℕ → ℕ → Mark → List Line
@@ -19,7 +21,8 @@ takings_on count number n at = takings n at ++ rest_from count number (timed_by 
 
 -- what follows from the look on in which a message is acknowledged
 abbrev pub acknowledge_on : ℕ → ℕ → ℕ → Mark → List Line
-acknowledge_on count number word at = empty_look (later 100000 at).moment word ∷ takings_on count number (late_count number) (later 100000 at)
+acknowledge_on count number word at = empty_look (later 100000 at).moment word ∷ takings_on count number
+    (late_count number) (later 100000 at)
 
 abbrev pub left_at : Turn → ℕ → ℕ → ℕ → Mark → List Line
 left_at Session count number word at = generated at.draw count
@@ -27,7 +30,8 @@ left_at Hello count number word at = first_hello ∷ messages_from count 0 at
 left_at Offer count number word at = messages_from (count - number) number at
 left_at Pass count number word at =
     empty_look at.moment word ∷ (early_lines number word at ++ acknowledge_on count number word (early number at))
-left_at Take count number word at = takings 1 at ++ empty_look (timed_by 1 at).moment word ∷ acknowledge_on count number word (timed_by 1 at)
+left_at Take count number word at = takings 1 at ++ empty_look (timed_by 1 at).moment word ∷ acknowledge_on count number
+    word (timed_by 1 at)
 left_at Taken count number word at = empty_look at.moment word ∷ acknowledge_on count number word at
 left_at Acknowledge count number word at = acknowledge_on count number word at
 left_at (Takings n) count number word at = takings_on count number n at
@@ -44,7 +48,8 @@ Reaches Pass count number at = (number < count) × (at.moment ≤ moment_bound n
 Reaches Take count number at = (number < count) × (at.moment ≤ moment_bound number)
 Reaches Taken count number at = (number < count) × (at.moment ≤ moment_bound number + 4096)
 Reaches Acknowledge count number at = (number < count) × (at.moment ≤ moment_bound number + 4096)
-Reaches (Takings n) count number at = (number < count) × (0 < n) × (n ≤ 6) × (at.moment + n * 4096 ≤ moment_bound number + 128672)
+Reaches (Takings n) count number at = (number < count) × (0 < n) × (n ≤ 6)
+    × (at.moment + n * 4096 ≤ moment_bound number + 128672)
 
 abbrev pub mark_of : Progress → Mark
 mark_of p = record { draw = p.draw; moment = p.moment }

@@ -1,12 +1,15 @@
 -- Which bytes are which line of a script.
-use Rattle.std.specs.Prelude.{◌≡◌, ℕ, ◌^◌, ◌<◌, ◌≤◌, ◌⊎◌, Bool, true, false, List, [], ◌∷◌, ◌++◌, length, codes, decimal, Ok}
+use Rattle.std.specs.Prelude.{◌≡◌, ℕ, ◌^◌, ◌<◌, ◌≤◌, ◌⊎◌, Bool, true, false, List, [], ◌∷◌, ◌++◌, length, codes}
+use Rattle.std.specs.Prelude.{decimal, Ok}
 use Rattle.std.specs.List.{join_with_byte}
 use Rattle.std.specs.Int.{to_be_bytes, w32}
 use Rattle.hex.specs.Hex.{decode_of}
 use Rattle.pump_frame.specs.Names.{IsName}
 use Rattle.pump_frame.specs.declared.row.SessionRow.{SessionRow}
 use Rattle.script_reader.specs.declared.line.Line.{Line}
-use Rattle.script_reader.specs.declared.line.Line.TheVariants.{Skip, Session, LowSession, Coarse, Look, Told, Step, Gone, High, Carry, Return, Done, Restart, ReceiverRestart}
+use Rattle.script_reader.specs.declared.line.Line.TheVariants.{Skip, Session, LowSession, Coarse, Look, Told, Step}
+use Rattle.script_reader.specs.declared.line.Line.TheVariants.{Gone, High, Carry, Return, Done, Restart}
+use Rattle.script_reader.specs.declared.line.Line.TheVariants.{ReceiverRestart}
 use Rattle.script_reader.specs.declared.line.ToldFeedback.{ToldFeedback}
 use Rattle.script_reader.specs.declared.line.ToldFeedback.TheVariants.{Quiet, Full, Pair}
 use Rattle.script_reader.specs.declared.line.Arriving.{Arriving}
@@ -22,7 +25,8 @@ IsWord word field = (word < 2 ^ 32) × (decode_of field ≡ Ok (to_be_bytes w32 
 
 -- the payload in two or more hexadecimal digits, an even number of them, or a dash for no bytes
 abbrev pub IsHex : List ℕ → List ℕ → Type 0
-IsHex payload field = ((field ≡ codes "-") × (payload ≡ [])) ⊎ ((0 < length payload) × (length payload ≤ 1024) × (decode_of field ≡ Ok payload))
+IsHex payload field = ((field ≡ codes "-") × (payload ≡ [])) ⊎ ((0 < length payload) × (length payload ≤ 1024)
+    × (decode_of field ≡ Ok payload))
 
 -- 1 to 1042 bytes in hexadecimal digits
 pub record IsRaw (bytes field : List ℕ) : Type 0 where
@@ -54,7 +58,8 @@ row_fields row = decimal row.id ∷ decimal row.capacity ∷ decimal row.message
 abbrev pub IsArriving : Arriving → List (List ℕ) → Type 0
 IsArriving Nothing fields = fields ≡ []
 IsArriving (Hello low high) fields = IsName low × IsName high × (fields ≡ codes "hello" ∷ low ∷ high ∷ [])
-IsArriving (Data number payload) fields = (number < 2 ^ 48) × (hex : List ℕ) × IsHex payload hex × (fields ≡ codes "data" ∷ decimal number ∷ hex ∷ [])
+IsArriving (Data number payload) fields = (number < 2 ^ 48) × (hex : List ℕ) × IsHex payload hex
+    × (fields ≡ codes "data" ∷ decimal number ∷ hex ∷ [])
 IsArriving (Raw bytes) fields = (hex : List ℕ) × IsRaw bytes.items hex × (fields ≡ codes "raw" ∷ hex ∷ [])
 
 -- whether the last of the stored messages is in the low hand
@@ -76,7 +81,8 @@ outcome_field true = codes "fault"
 abbrev pub IsFeedback : ToldFeedback → List ℕ → Type 0
 IsFeedback Quiet field = field ≡ codes "-"
 IsFeedback Full field = field ≡ codes "full"
-IsFeedback (Pair count average) field = (count < 2 ^ 32) × (average ≤ 10 ^ 9) × (field ≡ decimal count ++ 47 ∷ decimal average)
+IsFeedback (Pair count average) field = (count < 2 ^ 32) × (average ≤ 10 ^ 9)
+    × (field ≡ decimal count ++ 47 ∷ decimal average)
 
 -- the fields of a line; numbers are decimal, without sign and leading zeros
 abbrev pub HasFields : Line → List (List ℕ) → Type 0
@@ -89,18 +95,23 @@ HasFields (Look session moment word arrival) fields = (session < 2 ^ 32) × (mom
     × (hex : List ℕ) × IsWord word hex × (rest : List (List ℕ)) × IsArriving arrival rest
     × (fields ≡ codes "look" ∷ decimal session ∷ decimal moment ∷ hex ∷ rest)
 HasFields (Told session moment word fault feedback arrival) fields = (session < 2 ^ 32) × (moment ≤ 2 ^ 62)
-    × (hex : List ℕ) × IsWord word hex × (told : List ℕ) × IsFeedback feedback told × (rest : List (List ℕ)) × IsArriving arrival rest
+    × (hex : List ℕ) × IsWord word hex × (told : List ℕ) × IsFeedback feedback told × (rest : List (List ℕ))
+    × IsArriving arrival rest
     × (fields ≡ codes "told" ∷ decimal session ∷ decimal moment ∷ hex ∷ outcome_field fault ∷ told ∷ rest)
 HasFields (Step session moment word) fields = (session < 2 ^ 32) × (moment ≤ 2 ^ 62)
     × (hex : List ℕ) × IsWord word hex × (fields ≡ codes "step" ∷ decimal session ∷ decimal moment ∷ hex ∷ [])
-HasFields (High session moment) fields = (session < 2 ^ 32) × (moment ≤ 2 ^ 62) × (fields ≡ codes "high" ∷ decimal session ∷ decimal moment ∷ [])
-HasFields (Carry session back) fields = (session < 2 ^ 32) × (back < 2 ^ 64) × (fields ≡ codes "carry" ∷ decimal session ∷ decimal back ∷ [])
+HasFields (High session moment) fields = (session < 2 ^ 32) × (moment ≤ 2 ^ 62)
+    × (fields ≡ codes "high" ∷ decimal session ∷ decimal moment ∷ [])
+HasFields (Carry session back) fields = (session < 2 ^ 32) × (back < 2 ^ 64)
+    × (fields ≡ codes "carry" ∷ decimal session ∷ decimal back ∷ [])
 HasFields (Return session moment back) fields = (session < 2 ^ 32) × (moment ≤ 2 ^ 62) × (back < 2 ^ 64)
     × (fields ≡ codes "return" ∷ decimal session ∷ decimal moment ∷ decimal back ∷ [])
-HasFields (Gone session moment) fields = (session < 2 ^ 32) × (moment ≤ 2 ^ 62) × (fields ≡ codes "gone" ∷ decimal session ∷ decimal moment ∷ [])
+HasFields (Gone session moment) fields = (session < 2 ^ 32) × (moment ≤ 2 ^ 62)
+    × (fields ≡ codes "gone" ∷ decimal session ∷ decimal moment ∷ [])
 HasFields (Done session moment time) fields = (session < 2 ^ 32) × (moment ≤ 2 ^ 62) × (time ≤ 10 ^ 9)
     × (fields ≡ codes "done" ∷ decimal session ∷ decimal moment ∷ decimal time ∷ [])
-HasFields (Restart session moment) fields = (session < 2 ^ 32) × (moment ≤ 2 ^ 62) × (fields ≡ codes "restart" ∷ decimal session ∷ decimal moment ∷ [])
+HasFields (Restart session moment) fields = (session < 2 ^ 32) × (moment ≤ 2 ^ 62)
+    × (fields ≡ codes "restart" ∷ decimal session ∷ decimal moment ∷ [])
 HasFields (ReceiverRestart session moment) fields = (session < 2 ^ 32) × (moment ≤ 2 ^ 62)
     × (fields ≡ codes "receiver-restart" ∷ decimal session ∷ decimal moment ∷ [])
 
@@ -111,7 +122,8 @@ IsSkipped (b ∷ bytes) = b ≡ 35
 
 -- an empty line or a comment, or the fields of the line with one space between
 abbrev pub IsSpelled : Line → List ℕ → Type 0
-IsSpelled line bytes = ((line ≡ Skip) × IsSkipped bytes) ⊎ ((fields : List (List ℕ)) × HasFields line fields × (bytes ≡ spaced fields))
+IsSpelled line bytes = ((line ≡ Skip) × IsSkipped bytes) ⊎ ((fields : List (List ℕ)) × HasFields line fields
+    × (bytes ≡ spaced fields))
 
 -- these bytes, without a line end, are this line
 abbrev pub IsLine : Line → List ℕ → Type 0

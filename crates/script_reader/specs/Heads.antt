@@ -11,7 +11,9 @@ use Rattle.script_reader.specs.declared.lines.Lined.TheVariants as lined
 use Rattle.script_reader.specs.declared.head.LinedHead.{LinedHead}
 use Rattle.script_reader.specs.declared.head.LinedHead.TheVariants as heads
 use Rattle.script_reader.specs.declared.head.LineHead.{LineHead}
-use Rattle.script_reader.specs.declared.head.LineHead.TheVariants.{Skip, Session, LowSession, Coarse, Look, Told, Step, Gone, High, Carry, Return, Done, Restart, ReceiverRestart}
+use Rattle.script_reader.specs.declared.head.LineHead.TheVariants.{Skip, Session, LowSession, Coarse, Look, Told, Step}
+use Rattle.script_reader.specs.declared.head.LineHead.TheVariants.{Gone, High, Carry, Return, Done, Restart}
+use Rattle.script_reader.specs.declared.head.LineHead.TheVariants.{ReceiverRestart}
 
 abbrev pub arriving_with : List ℕ → ArrivingHead → Arriving
 arriving_with bytes Nothing = arriving.Nothing
@@ -25,7 +27,8 @@ line_with bytes (Session row) = line.Session row
 line_with bytes (LowSession row next held) = line.LowSession row next held
 line_with bytes (Coarse session) = line.Coarse session
 line_with bytes (Look session moment word arrival) = line.Look session moment word (arriving_with bytes arrival)
-line_with bytes (Told session moment word fault feedback arrival) = line.Told session moment word fault feedback (arriving_with bytes arrival)
+line_with bytes (Told session moment word fault feedback arrival) = line.Told session moment word fault feedback
+    (arriving_with bytes arrival)
 line_with bytes (Step session moment word) = line.Step session moment word
 line_with bytes (Gone session moment) = line.Gone session moment
 line_with bytes (High session moment) = line.High session moment

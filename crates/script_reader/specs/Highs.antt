@@ -1,5 +1,6 @@
 -- A high look of a session, and a packet that is carried to the receiver.
-use Rattle.std.specs.Prelude.{◌≡◌, ℕ, ◌+◌, ◌-◌, Bool, true, false, ◌&&◌, ◌==◌, nat_lt, nat_le, if◌then◌else◌, List, [], ◌∷◌, ◌++◌, length, slice_get, zero, suc, Option, Some, None}
+use Rattle.std.specs.Prelude.{◌≡◌, ℕ, ◌+◌, ◌-◌, Bool, true, false, ◌&&◌, ◌==◌, nat_lt, nat_le, if◌then◌else◌, List, []}
+use Rattle.std.specs.Prelude.{◌∷◌, ◌++◌, length, slice_get, zero, suc, Option, Some, None}
 use Rattle.pump_frame.specs.declared.payload.Payload.{Payload}
 use Rattle.pump_frame.specs.declared.frame.Item.{Item}
 use Rattle.pump_frame.specs.declared.row.SessionRow.{SessionRow}
@@ -20,10 +21,11 @@ printed_removal session m w v time = if has_removed w v then Removed session m w
 
 -- the first part of a high look at m: a TAKEN comes back, the message in the hand is removed where
 -- that is due, and its time is published
-pub record IsRemoval (row : SessionRow) (p : Past) (m : ℕ) (back : Option ℕ) (q : Past) (printed : List Event) : Type 0 where
-  pub look : RemovalPart (high_of p) m back (high_of q)
-  pub rest : q ≡ record p { world = q.world; times = q.times }
-  pub printed_is : printed ≡ printed_removal row.id m look.answered q.world look.time
+pub record IsRemoval (row : SessionRow) (p : Past) (m : ℕ) (back : Option ℕ) (q : Past) (printed : List Event) : Type 0
+  where
+    pub look : RemovalPart (high_of p) m back (high_of q)
+    pub rest : q ≡ record p { world = q.world; times = q.times }
+    pub printed_is : printed ≡ printed_removal row.id m look.answered q.world look.time
 
 -- ---- a sending ----
 
@@ -33,10 +35,11 @@ printed_sending session m (Some n) = Sent session m n ∷ []
 
 -- the second part of a high look at m: an empty hand takes up the next message, and the message in
 -- the hand is sent where it is due, and in any case where a receiver attaches
-pub record IsSending (row : SessionRow) (attaches : Bool) (p : Past) (m : ℕ) (q : Past) (printed : List Event) : Type 0 where
-  pub look : SendingPart row.resend attaches (high_of p) m (high_of q)
-  pub rest : q ≡ record p { world = q.world; sends = q.sends; moment = m }
-  pub printed_is : printed ≡ (if look.is_sent then printed_sending row.id m look.taken.high_hand else [])
+pub record IsSending (row : SessionRow) (attaches : Bool) (p : Past) (m : ℕ) (q : Past) (printed : List Event) : Type 0
+  where
+    pub look : SendingPart row.resend attaches (high_of p) m (high_of q)
+    pub rest : q ≡ record p { world = q.world; sends = q.sends; moment = m }
+    pub printed_is : printed ≡ (if look.is_sent then printed_sending row.id m look.taken.high_hand else [])
 
 -- a high look at m leads from p to q and prints this; a receiver attaches in it or none does, and `back`
 -- is the place of the TAKEN that comes back
@@ -86,7 +89,8 @@ place packets back = length packets - 1 - back
 
 -- whether the receiver had the message already
 abbrev pub printed_carry : ℕ → World → Item → Event
-printed_carry session w d = if nat_lt d.number (length w.received) then Again session d.number else Took session d.number
+printed_carry session w d = if nat_lt d.number (length w.received) then Again session d.number else Took session
+    d.number
 
 -- where the receiver's records end: each is a length of two bytes and a message, from byte 80 on
 abbrev pub log_end : List Payload → ℕ

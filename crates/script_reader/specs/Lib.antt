@@ -5,7 +5,7 @@ pub mod DigitValues
 pub mod EventHeads
 pub mod Faults
 pub mod Fields
-pub mod Fronts
+pub mod Prefixes
 pub mod Generated
 pub mod Generating
 pub mod Grammar

@@ -1,5 +1,6 @@
 -- A script as the lines of a stream.
-use Rattle.std.specs.Prelude.{◌≡◌, ◌≢◌, ℕ, ◌+◌, ◌-◌, ◌^◌, ◌<◌, ◌≤◌, ◌==◌, ◌⊎◌, min, Bool, false, List, [], ◌∷◌, ◌++◌, length, Option, IfSome, All}
+use Rattle.std.specs.Prelude.{◌≡◌, ◌≢◌, ℕ, ◌+◌, ◌-◌, ◌^◌, ◌<◌, ◌≤◌, ◌==◌, ◌⊎◌, min, Bool, false, List, [], ◌∷◌, ◌++◌}
+use Rattle.std.specs.Prelude.{length, Option, IfSome, All}
 use Rattle.std.specs.Io.KnownBytes.{prepend_known, Consumes, Keeps, IsAtEnd}
 use Rattle.pump_link.specs.Tells.{Draws}
 use Rattle.script_reader.specs.Grammar.{IsLine}
@@ -51,8 +52,10 @@ IsNextLine old new left rest (lined.Line line) = (bytes : List ℕ) × IsUnended
 IsNextLine old new left rest lined.Bad = Keeps (to_come old left) (to_come new rest)
     × (IfSome (to_come old left) IsBad ⊎ ((old.number ≡ 2 ^ 32 - 1) × IfSome (to_come old left) IsSome))
     × (new.number ≡ min (old.number + 1) (2 ^ 32 - 1)) × (length new.held ≤ 4096)
-IsNextLine old new left rest lined.End = Keeps (to_come old left) (to_come new rest) × IsAtEnd (to_come old left) × (new.number ≡ old.number)
-IsNextLine old new left rest lined.Failed = Keeps (to_come old left) (to_come new rest) × (new.number ≡ old.number) × (length new.held ≤ 4096)
+IsNextLine old new left rest lined.End = Keeps (to_come old left) (to_come new rest) × IsAtEnd (to_come old left)
+    × (new.number ≡ old.number)
+IsNextLine old new left rest lined.Failed = Keeps (to_come old left) (to_come new rest) × (new.number ≡ old.number)
+    × (length new.held ≤ 4096)
     × IsUnended new.held
 
 -- ---- how much a call reads ----
@@ -77,7 +80,8 @@ pub record ReadsTo (held : List ℕ) (gives later : List (List ℕ) → Type 0) 
 -- what is held in the end: the first line is gone, and after any other answer nothing is. Nothing is held
 -- at the end of a script, and no whole line where the source failed
 abbrev pub LeavesHeld : Lined → List ℕ → List ℕ → Type 0
-LeavesHeld (lined.Line line) all held = (bytes : List ℕ) × IsUnended bytes × IsLine line bytes × (all ≡ bytes ++ 10 ∷ held)
+LeavesHeld (lined.Line line) all held = (bytes : List ℕ) × IsUnended bytes × IsLine line bytes
+    × (all ≡ bytes ++ 10 ∷ held)
 LeavesHeld lined.Bad all held = (held ≡ all) × IsSome all
 LeavesHeld lined.End all held = (held ≡ all) × (all ≡ [])
 LeavesHeld lined.Failed all held = (held ≡ all) × (LineIsReady all → ⊥)
@@ -89,4 +93,5 @@ ReadsOn old new gives later result = (all : List ℕ) × ReadsTo old.held gives 
 -- the bytes are these lines, each with its line end, and then the rest, where they are known
 abbrev pub AreLines : Option (List ℕ) → List Line → Option (List ℕ) → Type 0
 AreLines all [] rest = Keeps all rest
-AreLines all (line ∷ lines) rest = (bytes : List ℕ) × (mid : Option (List ℕ)) × IsUnended bytes × IsLine line bytes × Consumes all mid (bytes ++ 10 ∷ []) × AreLines mid lines rest
+AreLines all (line ∷ lines) rest = (bytes : List ℕ) × (mid : Option (List ℕ)) × IsUnended bytes × IsLine line bytes
+    × Consumes all mid (bytes ++ 10 ∷ []) × AreLines mid lines rest

@@ -1,6 +1,8 @@
 -- Reading a line field by field, as the code does it. Of what is public only the clauses of `Fields` name it;
 -- proofs/LineLaws.antt ties it to the grammar.
-use Rattle.std.specs.Prelude.{◌≡◌, ℕ, ◌+◌, ◌^◌, ◌/◌, ◌≤◌, ◌==◌, slice_index, ◌&&◌, nat_lt, nat_le, Bool, true, false, if◌then◌else◌, List, [], ◌∷◌, length, take, drop, position, codes, decimal, Option, None, Some, Result, Ok, Err}
+use Rattle.std.specs.Prelude.{◌≡◌, ℕ, ◌+◌, ◌^◌, ◌/◌, ◌≤◌, ◌==◌, slice_index, ◌&&◌, nat_lt, nat_le, Bool, true, false}
+use Rattle.std.specs.Prelude.{if◌then◌else◌, List, [], ◌∷◌, length, take, drop, position, codes, decimal, Option, None}
+use Rattle.std.specs.Prelude.{Some, Result, Ok, Err}
 use Rattle.std.specs.List.{slice_split, list_all}
 use Rattle.std.specs.Str.{bytes_eq}
 use Rattle.std.specs.Str.Parse.{digits_value}
@@ -12,7 +14,9 @@ use Rattle.pump_frame.specs.Names.{is_name_byte}
 use Rattle.pump_frame.specs.declared.row.SessionRow.{SessionRow}
 use Rattle.script_reader.specs.Fields.{is_space}
 use Rattle.script_reader.specs.declared.line.Line.{Line}
-use Rattle.script_reader.specs.declared.line.Line.TheVariants.{Skip, Session, LowSession, Coarse, Look, Told, Step, Gone, High, Carry, Return, Done, Restart, ReceiverRestart}
+use Rattle.script_reader.specs.declared.line.Line.TheVariants.{Skip, Session, LowSession, Coarse, Look, Told, Step}
+use Rattle.script_reader.specs.declared.line.Line.TheVariants.{Gone, High, Carry, Return, Done, Restart}
+use Rattle.script_reader.specs.declared.line.Line.TheVariants.{ReceiverRestart}
 use Rattle.script_reader.specs.declared.line.ToldFeedback.{ToldFeedback}
 use Rattle.script_reader.specs.declared.line.ToldFeedback.TheVariants.{Quiet, Full, Pair}
 use Rattle.script_reader.specs.declared.line.Arriving.{Arriving}
@@ -46,7 +50,8 @@ pub record IsPlain (field : List ℕ) : Type 0 where
 -- the number below the bound whose digits the field is
 unfoldable pub number : ℕ → List ℕ → Option ℕ
 number bound field =
-    if bytes_eq (decimal (digits_value 10 field)) field && nat_lt (digits_value 10 field) bound then Some (digits_value 10 field) else None
+    if bytes_eq (decimal (digits_value 10 field)) field && nat_lt (digits_value 10 field) bound then Some
+    (digits_value 10 field) else None
 
 abbrev pub word_from : Result (List ℕ) FromHexError → Option ℕ
 word_from (Ok bytes) = Some (from_be_bytes w32 bytes)
@@ -56,7 +61,8 @@ unfoldable pub word : List ℕ → Option ℕ
 word field = word_from (decode_sized field 4)
 
 unfoldable pub name : List ℕ → Option (List ℕ)
-name field = if nat_lt 0 (length field) && (nat_le (length field) 32 && list_all is_name_byte field) then Some field else None
+name field = if nat_lt 0 (length field) && (nat_le (length field) 32 && list_all is_name_byte field) then Some field
+    else None
 
 abbrev pub at_end : {A : Type 0} → A → List (List ℕ) → Option A
 at_end x [] = Some x
@@ -70,7 +76,23 @@ row_behind id capacity message window fields = do
   resend ← field_at (number (2 ^ 32)) longest.1
   low ← field_at name resend.1
   high ← field_at name low.1
-  Some (record { id = id; low = low.0; high = high.0; capacity = capacity; message = message; window = window; start = start.0; longest = longest.0; resend = resend.0; low_port = 0; high_port = 0; coarse = false }, high.1)
+  Some (
+    record {
+      id = id;
+      low = low.0;
+      high = high.0;
+      capacity = capacity;
+      message = message;
+      window = window;
+      start = start.0;
+      longest = longest.0;
+      resend = resend.0;
+      low_port = 0;
+      high_port = 0;
+      coarse = false;
+    },
+    high.1,
+  )
 
 -- the nine fields of a row, and the fields after them
 unfoldable pub row_at : List (List ℕ) → Option (SessionRow × List (List ℕ))
@@ -130,7 +152,8 @@ bytes_from (Err e) = None
 unfoldable pub hex : List ℕ → Option (List ℕ)
 hex field =
     if bytes_eq field (codes "-") then Some []
-    else if nat_lt 0 (length field / 2) && nat_le (length field / 2) 1024 then bytes_from (decode_sized field (length field / 2))
+    else if nat_lt 0 (length field / 2) && nat_le (length field / 2) 1024 then bytes_from
+    (decode_sized field (length field / 2))
     else None
 
 abbrev pub held_from : Option (List ℕ) → Option (ArrayVec ℕ)
@@ -139,7 +162,8 @@ held_from (Some bytes) = Some record { items = bytes }
 
 unfoldable pub raw : List ℕ → Option (ArrayVec ℕ)
 raw field =
-    if nat_lt 0 (length field / 2) && nat_le (length field / 2) 1042 then held_from (bytes_from (decode_sized field (length field / 2)))
+    if nat_lt 0 (length field / 2) && nat_le (length field / 2) 1042 then held_from
+    (bytes_from (decode_sized field (length field / 2)))
     else None
 
 unfoldable pub raw_of : List (List ℕ) → Option Arriving

@@ -27,7 +27,7 @@ history_of (Whole s) = s.past.history
 history_of (Alone s) = s.past.history
 
 -- no more is live than there are places, no more is held than lies between the hands, the receiver
--- has a front of the accepted list, and at most 64 arrivals wait
+-- has a prefix of the accepted list, and at most 64 arrivals wait
 pub record IsBounded (s : Running) : Type 0 where
   pub live : length s.past.world.accepted ≤ s.past.world.removed + s.row.capacity
   pub held : length s.past.world.held ≤ s.row.capacity - 2

@@ -1,6 +1,7 @@
 -- The transcript of a whole script, which has one session: a whole one, or a low side alone. It depends on
 -- what the disks of a whole session were found to hold.
-use Rattle.std.specs.Prelude.{◌≡◌, ◌⊎◌, ℕ, Bool, true, false, ◌&&◌, ◌==◌, not, List, [], ◌∷◌, ◌++◌, length, Option, Some, None}
+use Rattle.std.specs.Prelude.{◌≡◌, ◌⊎◌, ℕ, Bool, true, false, ◌&&◌, ◌==◌, not, List, [], ◌∷◌, ◌++◌, length, Option}
+use Rattle.std.specs.Prelude.{Some, None}
 use Rattle.disk_model.specs.declared.name.Role.TheVariants as roles
 use Rattle.pump_frame.specs.Rows.{first_bad, IsLawfulRow}
 use Rattle.pump_frame.specs.declared.row.RowKey.{RowKey}
@@ -35,7 +36,8 @@ pub data Begun : Type 0 where
 -- a session line begins a lawful row's session on what its disks were found to hold
 abbrev pub BeginsWhole : Openings → SessionRow → Option Begun → Type 0
 BeginsWhole o row running =
-    IsLawfulRow row × CanOpen row (o row.id) × (running ≡ Some (Whole (record { row = row; past = first_past row (o row.id) })))
+    IsLawfulRow row × CanOpen row (o row.id)
+    × (running ≡ Some (Whole (record { row = row; past = first_past row (o row.id) })))
 
 -- so does the line of a low side alone
 abbrev pub BeginsAlone : SessionRow → ℕ → Bool → Option Begun → Type 0
@@ -51,7 +53,8 @@ GoesWhole s line running printed =
 abbrev pub GoesAlone : RunningAlone → Line → Option Begun → List Event → Type 0
 GoesAlone s line running printed =
     (is_apt_alone s.row s.past line ≡ true)
-    × ((q : PastAlone) × StepAlone s.row s.past line false q printed × (running ≡ Some (Alone (record { row = s.row; past = q }))))
+    × ((q : PastAlone) × StepAlone s.row s.past line false q printed
+    × (running ≡ Some (Alone (record { row = s.row; past = q }))))
 
 abbrev pub GoesOn : Begun → Line → Option Begun → List Event → Type 0
 GoesOn (Whole s) line running printed = GoesWhole s line running printed
@@ -114,7 +117,8 @@ Stops None line after printed fault = ⊥
 Stops (Some (Whole s)) line after printed fault =
     (is_timely s.row s.past line ≡ true)
     × ((q : Past) × (end size_of_message size : ℕ) × Overfills s.row s.past line q printed end size_of_message size
-    × (fault ≡ faults.Full s.row.id end size_of_message size) × (after ≡ Some (Whole (record { row = s.row; past = q }))))
+    × (fault ≡ faults.Full s.row.id end size_of_message size)
+    × (after ≡ Some (Whole (record { row = s.row; past = q }))))
 Stops (Some (Alone s)) line after printed fault =
     (is_apt_alone s.row s.past line ≡ true)
     × ((q : PastAlone) × StepAlone s.row s.past line true q printed

@@ -1,7 +1,9 @@
--- The transcript of a whole script, which may have up to 16 sessions of either kind. What a line does to its own session
--- stands in Scripts, as if the script had this session alone. Here each line finds its session by the number that it
--- names; the lines that begin sessions, and those that make them coarse, stand before all others; and no moment falls, whichever session's line has it.
-use Rattle.std.specs.Prelude.{◌≡◌, ◌⊎◌, ℕ, ◌<◌, Bool, true, false, ◌&&◌, ◌||◌, ◌==◌, not, nat_lt, nat_le, max, if◌then◌else◌, List, [], ◌∷◌, ◌++◌, length, filter, find, Option, Some, None}
+-- The transcript of a whole script, which may have up to 16 sessions of either kind. What a line does to its own
+-- session stands in Scripts, as if the script had this session alone. Here each line finds its session by the number
+-- that it names; the lines that begin sessions, and those that make them coarse, stand before all others; and no
+-- moment falls, whichever session's line has it.
+use Rattle.std.specs.Prelude.{◌≡◌, ◌⊎◌, ℕ, ◌<◌, Bool, true, false, ◌&&◌, ◌||◌, ◌==◌, not, nat_lt, nat_le, max}
+use Rattle.std.specs.Prelude.{if◌then◌else◌, List, [], ◌∷◌, ◌++◌, length, filter, find, Option, Some, None}
 use Rattle.std.specs.List.{AllByRecursion}
 use Rattle.script_reader.specs.declared.line.Line.{Line}
 use Rattle.script_reader.specs.declared.line.Line.TheVariants as lines
@@ -83,8 +85,8 @@ abbrev pub AreRising : List Begun → Type 0
 AreRising [] = Unit {0}
 AreRising (s ∷ later) = AllByRecursion (λ t. session_number s < session_number t) later × AreRising later
 
--- what a script has come to: its sessions, the moment of the last line of any of them that had one, and whether a line came
--- that needs not stand first
+-- what a script has come to: its sessions, the moment of the last line of any of them that had one, and whether a
+-- line came that needs not stand first
 pub record Sessions : Type 0 where
   pub begun : List Begun
   pub moment : ℕ
@@ -107,8 +109,8 @@ abbrev pub is_from : ℕ → Option ℕ → Bool
 is_from last None = true
 is_from last (Some m) = nat_le last m
 
--- a line that stands first comes before every line that does not, and at most 16 begin sessions; no moment is below one that
--- came before it
+-- a line that stands first comes before every line that does not, and at most 16 begin sessions; no moment is below
+-- one that came before it
 abbrev pub is_in_turn : Sessions → Line → Bool
 is_in_turn t line =
     if stands_first line then (not t.is_under_way && (not (begins_session line) || nat_lt (length t.begun) 16))
@@ -119,7 +121,8 @@ is_in_turn t line =
 abbrev pub LeadsOne : Openings → Sessions → Line → Option ℕ → Sessions → List Event → Type 0
 LeadsOne o t line None u printed = (u ≡ t) × (printed ≡ [])
 LeadsOne o t line (Some number) u printed =
-    (is_in_turn t line ≡ true) × ((s : Begun) × Leads o (session_at number t.begun) line (Some s) printed × (u ≡ led_to t line s))
+    (is_in_turn t line ≡ true) × ((s : Begun) × Leads o (session_at number t.begun) line (Some s) printed
+    × (u ≡ led_to t line s))
 
 abbrev pub ScriptLeads : Openings → Sessions → Line → Sessions → List Event → Type 0
 ScriptLeads o t line u printed = LeadsOne o t line (session_in line) u printed
@@ -136,7 +139,8 @@ ScriptRefuses t line = RefusesOne t line (session_in line)
 abbrev pub StopsOne : Sessions → Line → Option ℕ → Sessions → List Event → Fault → Type 0
 StopsOne t line None u printed fault = ⊥
 StopsOne t line (Some number) u printed fault =
-    (is_in_turn t line ≡ true) × ((s : Begun) × Stops (session_at number t.begun) line (Some s) printed fault × (u ≡ led_to t line s))
+    (is_in_turn t line ≡ true) × ((s : Begun) × Stops (session_at number t.begun) line (Some s) printed fault
+    × (u ≡ led_to t line s))
 
 abbrev pub ScriptStops : Sessions → Line → Sessions → List Event → Fault → Type 0
 ScriptStops t line u printed fault = StopsOne t line (session_in line) u printed fault
@@ -153,7 +157,8 @@ ScriptLeadsTo o t (line ∷ later) u printed =
 -- what the end of a script prints: of each session, by rising number
 abbrev pub AllEnd : List Begun → List Event → Type 0
 AllEnd [] printed = printed ≡ []
-AllEnd (s ∷ later) printed = (first : List Event) × (second : List Event) × Ends (Some s) first × AllEnd later second × (printed ≡ first ++ second)
+AllEnd (s ∷ later) printed = (first : List Event) × (second : List Event) × Ends (Some s) first × AllEnd later second
+    × (printed ≡ first ++ second)
 
 -- the transcript of a whole script, whose lines can all be applied, and none of which stops it
 abbrev pub IsScriptTranscript : Openings → List Line → List Event → Type 0

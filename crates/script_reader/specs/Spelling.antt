@@ -1,7 +1,9 @@
 -- The one spelling in which a line of a script is printed: digits in lower case, and `-` for no bytes.
 use Rattle.std.specs.Prelude.{ℕ, List, [], ◌∷◌, ◌++◌, codes, decimal}
 use Rattle.script_reader.specs.declared.line.Line.{Line}
-use Rattle.script_reader.specs.declared.line.Line.TheVariants.{Skip, Session, LowSession, Coarse, Look, Told, Step, Gone, High, Carry, Return, Done, Restart, ReceiverRestart}
+use Rattle.script_reader.specs.declared.line.Line.TheVariants.{Skip, Session, LowSession, Coarse, Look, Told, Step}
+use Rattle.script_reader.specs.declared.line.Line.TheVariants.{Gone, High, Carry, Return, Done, Restart}
+use Rattle.script_reader.specs.declared.line.Line.TheVariants.{ReceiverRestart}
 use Rattle.script_reader.specs.declared.line.ToldFeedback.{ToldFeedback}
 use Rattle.script_reader.specs.declared.line.ToldFeedback.TheVariants.{Quiet, Full, Pair}
 use Rattle.script_reader.specs.declared.line.Arriving.{Arriving}
@@ -32,7 +34,8 @@ line_fields (Coarse session) = codes "coarse" ∷ decimal session ∷ []
 line_fields (Look session moment word arrival) =
     codes "look" ∷ decimal session ∷ decimal moment ∷ word_field word ∷ arriving_fields arrival
 line_fields (Told session moment word fault feedback arrival) =
-    codes "told" ∷ decimal session ∷ decimal moment ∷ word_field word ∷ outcome_field fault ∷ feedback_field feedback ∷ arriving_fields arrival
+    codes "told" ∷ decimal session ∷ decimal moment ∷ word_field word ∷ outcome_field fault ∷ feedback_field
+    feedback ∷ arriving_fields arrival
 line_fields (Step session moment word) = codes "step" ∷ decimal session ∷ decimal moment ∷ word_field word ∷ []
 line_fields (Gone session moment) = codes "gone" ∷ decimal session ∷ decimal moment ∷ []
 line_fields (High session moment) = codes "high" ∷ decimal session ∷ decimal moment ∷ []

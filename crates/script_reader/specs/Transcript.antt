@@ -2,9 +2,11 @@
 use Rattle.std.specs.Prelude.{ℕ, List, [], ◌∷◌, ◌++◌, Option, None, Some, codes, decimal, slice_index}
 use Rattle.std.specs.List.{flat_map}
 use Rattle.pump_frame.specs.declared.frame.Kind.{Kind}
-use Rattle.pump_frame.specs.declared.frame.Kind.TheVariants.{Hello, Welcome, Data, Ack, Refuse, Attach as AttachFrame, Taken}
+use Rattle.pump_frame.specs.declared.frame.Kind.TheVariants.{Hello, Welcome, Data, Ack, Refuse, Attach as AttachFrame}
+use Rattle.pump_frame.specs.declared.frame.Kind.TheVariants.{Taken}
 use Rattle.script_reader.specs.declared.event.Event.{Event}
-use Rattle.script_reader.specs.declared.event.Event.TheVariants.{Stored, Full, Passed, Released, Repeat, Low, Removed, Sent, Took, Again, Attach, Restart, End, Show, Live}
+use Rattle.script_reader.specs.declared.event.Event.TheVariants.{Stored, Full, Passed, Released, Repeat, Low, Removed}
+use Rattle.script_reader.specs.declared.event.Event.TheVariants.{Sent, Took, Again, Attach, Restart, End, Show, Live}
 use Rattle.script_reader.specs.declared.fault.Fault.{Fault}
 use Rattle.disk_model.specs.declared.name.Role.{Role}
 use Rattle.disk_model.specs.declared.name.Role.TheVariants as roles
@@ -35,18 +37,24 @@ high_fields (Some high) = decimal high.0 ∷ decimal high.1 ∷ []
 abbrev pub event_fields : Event → List (List ℕ)
 event_fields (Stored session moment number) = codes "stored" ∷ decimal session ∷ decimal moment ∷ decimal number ∷ []
 event_fields (Full session moment) = codes "full" ∷ decimal session ∷ decimal moment ∷ []
-event_fields (Passed session moment seen) = codes "passed" ∷ decimal session ∷ decimal moment ∷ decimal seen.count ∷ decimal seen.average ∷ []
+event_fields (Passed session moment seen) = codes "passed" ∷ decimal session ∷ decimal moment ∷ decimal
+    seen.count ∷ decimal seen.average ∷ []
 event_fields (Released session moment) = codes "released" ∷ decimal session ∷ decimal moment ∷ []
-event_fields (Repeat session moment seen) = codes "repeat" ∷ decimal session ∷ decimal moment ∷ decimal seen.count ∷ decimal seen.average ∷ []
-event_fields (Low session moment reply) = codes "low" ∷ decimal session ∷ decimal moment ∷ reply_fields reply.kind reply.number reply.payload
-event_fields (Removed session moment number time) = codes "removed" ∷ decimal session ∷ decimal moment ∷ decimal number ∷ time_field time ∷ []
+event_fields (Repeat session moment seen) = codes "repeat" ∷ decimal session ∷ decimal moment ∷ decimal
+    seen.count ∷ decimal seen.average ∷ []
+event_fields (Low session moment reply) = codes "low" ∷ decimal session ∷ decimal moment ∷ reply_fields reply.kind
+    reply.number reply.payload
+event_fields (Removed session moment number time) = codes "removed" ∷ decimal session ∷ decimal moment ∷ decimal
+    number ∷ time_field time ∷ []
 event_fields (Sent session moment number) = codes "sent" ∷ decimal session ∷ decimal moment ∷ decimal number ∷ []
 event_fields (Took session number) = codes "took" ∷ decimal session ∷ decimal number ∷ []
 event_fields (Again session number) = codes "again" ∷ decimal session ∷ decimal number ∷ []
 event_fields (Attach session moment count) = codes "attach" ∷ decimal session ∷ decimal moment ∷ decimal count ∷ []
-event_fields (Restart session moment accepted removed held) = codes "restart" ∷ decimal session ∷ decimal moment ∷ decimal accepted ∷ decimal removed ∷ held_field held ∷ []
+event_fields (Restart session moment accepted removed held) = codes "restart" ∷ decimal session ∷ decimal
+    moment ∷ decimal accepted ∷ decimal removed ∷ held_field held ∷ []
 event_fields (End session accepted high) = codes "end" ∷ decimal session ∷ decimal accepted ∷ high_fields high
-event_fields (Show session accepted removed received) = codes "show" ∷ decimal session ∷ decimal accepted ∷ decimal removed ∷ decimal received ∷ []
+event_fields (Show session accepted removed received) = codes "show" ∷ decimal session ∷ decimal accepted ∷ decimal
+    removed ∷ decimal received ∷ []
 event_fields (Live session number payload) = codes "live" ∷ decimal session ∷ decimal number ∷ hex_field payload ∷ []
 
 -- fields as a line, with its line end
@@ -73,8 +81,10 @@ fault_fields Read = codes "fault" ∷ codes "read" ∷ []
 fault_fields (Script line) = codes "fault" ∷ codes "script" ∷ decimal line ∷ []
 fault_fields (Device session role) = codes "fault" ∷ codes "device" ∷ decimal session ∷ role_field role ∷ []
 fault_fields (Disk session role number first second) =
-    codes "fault" ∷ codes "disk" ∷ decimal session ∷ role_field role ∷ decimal number ∷ decimal first ∷ decimal second ∷ []
-fault_fields (FullLog session end length size) = codes "fault" ∷ codes "full" ∷ decimal session ∷ decimal end ∷ decimal length ∷ decimal size ∷ []
+    codes "fault" ∷ codes "disk" ∷ decimal session ∷ role_field role ∷ decimal number ∷ decimal first ∷ decimal
+    second ∷ []
+fault_fields (FullLog session end length size) = codes "fault" ∷ codes "full" ∷ decimal session ∷ decimal end ∷ decimal
+    length ∷ decimal size ∷ []
 
 abbrev pub fault_line : Fault → List ℕ
 fault_line fault = line_with_end (fault_fields fault)

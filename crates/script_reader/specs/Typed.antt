@@ -6,7 +6,9 @@ use Rattle.hex.specs.Hex.{decode_of, encode_lower}
 use Rattle.pump_frame.specs.Names.{IsName}
 use Rattle.pump_frame.specs.declared.row.SessionRow.{SessionRow}
 use Rattle.script_reader.specs.declared.line.Line.{Line}
-use Rattle.script_reader.specs.declared.line.Line.TheVariants.{Skip, Session, LowSession, Coarse, Look, Told, Step, Gone, High, Carry, Return, Done, Restart, ReceiverRestart}
+use Rattle.script_reader.specs.declared.line.Line.TheVariants.{Skip, Session, LowSession, Coarse, Look, Told, Step}
+use Rattle.script_reader.specs.declared.line.Line.TheVariants.{Gone, High, Carry, Return, Done, Restart}
+use Rattle.script_reader.specs.declared.line.Line.TheVariants.{ReceiverRestart}
 use Rattle.script_reader.specs.declared.line.ToldFeedback.{ToldFeedback}
 use Rattle.script_reader.specs.declared.line.ToldFeedback.TheVariants.{Quiet, Full, Pair}
 use Rattle.script_reader.specs.declared.line.Arriving.{Arriving}
@@ -53,7 +55,8 @@ IsTypedLine Skip = Unit {0}
 IsTypedLine (Session row) = IsTypedRow row
 IsTypedLine (LowSession row next held) = IsTypedRow row
 IsTypedLine (Coarse session) = session < 2 ^ 32
-IsTypedLine (Look session moment word arrival) = (session < 2 ^ 32) × IsWord word (word_field word) × IsTypedArriving arrival
+IsTypedLine (Look session moment word arrival) = (session < 2 ^ 32) × IsWord word (word_field word)
+    × IsTypedArriving arrival
 IsTypedLine (Told session moment word fault feedback arrival) =
     (session < 2 ^ 32) × IsWord word (word_field word) × IsTypedFeedback feedback × IsTypedArriving arrival
 IsTypedLine (Step session moment word) = (session < 2 ^ 32) × IsWord word (word_field word)

@@ -1,12 +1,15 @@
 // The fields of a line, read one by one.
-ghost use Rattle.std.specs.Prelude.{◌≡◌, ℕ, ◌+◌, ◌^◌, ◌<◌, ◌≤◌, List, [], ◌∷◌, length, IsSome, IfSome, MatchOption, IsTrue, ◌↔◌, option_map, position};
+ghost use Rattle.std.specs.Prelude.{◌≡◌, ℕ, ◌+◌, ◌^◌, ◌<◌, ◌≤◌, List, [], ◌∷◌, length, IsSome, IfSome, MatchOption};
+ghost use Rattle.std.specs.Prelude.{IsTrue, ◌↔◌, option_map, position};
 ghost use Rattle.std.specs.Option.{option_copied};
 ghost use Rattle.script_reader.specs.Fields.{is_space};
-ghost use Rattle.script_reader.specs.Parsing.{Reads, field_at, IsPlain, number, word, name, choice, is_slash, pair, feedback, hex, raw, held_from};
+ghost use Rattle.script_reader.specs.Parsing.{Reads, field_at, IsPlain, number, word, name, choice, is_slash, pair};
+ghost use Rattle.script_reader.specs.Parsing.{feedback, hex, raw, held_from};
 
 use crate::body::Body;
 use crate::digits::decode;
 use crate::line::ToldFeedback;
+use memchr::memchr;
 use pump_frame::Name;
 use std::marker::Model;
 
@@ -30,6 +33,29 @@ fn first_space(bytes: &[u8]) -> Option<usize>
     ensures { result ≡ position is_space bytes.now }
 {
     bytes.iter().position(|b| *b == b' ')
+}
+
+/// As `first_space`, and faster where the space comes late.
+fn late_space(bytes: &[u8]) -> Option<usize>
+    ensures { result ≡ position is_space bytes.now }
+{
+    memchr(b' ', bytes)
+}
+
+/// Whether the field is this word. A loop of its own, since most words are shorter than what a comparison
+/// of slices begins with.
+pub(crate) fn is_word(field: &[u8], word: &[u8]) -> bool
+    ensures { IsTrue result ↔ (field.now ≡ word.now) }
+{
+    if field.len() != word.len() {
+        return false;
+    }
+    'bytes: for i in 0..field.len() {
+        if field[i] != word[i] {
+            return false;
+        }
+    }
+    true
 }
 
 #[tactic(auto, using(crate::proofs::FieldLaws::reads_field))]
@@ -57,6 +83,23 @@ impl<'a> Fields<'a> {
     {
         let rest = self.rest?;
         match first_space(rest) {
+            Some(at) => {
+                self.rest = Some(&rest[at + 1..]);
+                Some(&rest[..at])
+            }
+            None => {
+                self.rest = None;
+                Some(rest)
+            }
+        }
+    }
+
+    /// As `next`, for a field that may be long.
+    fn next_long(&mut self) -> Option<&'a [u8]>
+        ensures { MatchOption result (self.old ≡ []) (λ field. self.old ≡ field.now ∷ self.new) }
+    {
+        let rest = self.rest?;
+        match late_space(rest) {
             Some(at) => {
                 self.rest = Some(&rest[at + 1..]);
                 Some(&rest[..at])
@@ -124,7 +167,7 @@ impl<'a> Fields<'a> {
         ensures reads { Reads (held_from (option_map (λ none. body.new) result)) self.new (field_at raw self.old) }
         ensures few { IsSome result → length body.new ≤ 1042 }
     {
-        raw_of(self.next()?, body)
+        raw_of(self.next_long()?, body)
     }
 
     /// Bytes in hexadecimal digits, into a room.
@@ -132,7 +175,7 @@ impl<'a> Fields<'a> {
         ensures reads { Reads (option_map (λ none. body.new) result) self.new (field_at hex self.old) }
         ensures few { IsSome result → length body.new ≤ 1024 }
     {
-        hex_of(self.next()?, body)
+        hex_of(self.next_long()?, body)
     }
 }
 
@@ -157,7 +200,7 @@ fn hex_of(field: &[u8], body: &mut Body) -> Option<()>
     ensures value { option_map (λ none. body.new) result ≡ hex field.now }
     ensures few { IsSome result → length body.new ≤ 1024 }
 {
-    if field == b"-".as_slice() {
+    if is_word(field, b"-") {
         body.clear();
         return Some(());
     }
@@ -190,6 +233,34 @@ fn any_number_of(field: &[u8]) -> Option<u64>
     if !is_plain(field) {
         return None;
     }
+    if field.len() <= 19 {
+        short_number_of(field)
+    } else {
+        long_number_of(field)
+    }
+}
+
+/// As `any_number_of`: of so few digits no number is too great.
+fn short_number_of(field: &[u8]) -> Option<u64>
+    requires plain { IsPlain field.now }
+    requires short { length field.now ≤ 19 }
+    ensures { result ≡ number (2 ^ 64) field.now }
+{
+    let mut n: u64 = 0;
+    'digits: for i in 0..field.len() {
+        let byte = field[i];
+        if !byte.is_ascii_digit() {
+            return None;
+        }
+        n = n * 10 + u64::from(byte - b'0');
+    }
+    Some(n)
+}
+
+fn long_number_of(field: &[u8]) -> Option<u64>
+    requires { IsPlain field.now }
+    ensures { result ≡ number (2 ^ 64) field.now }
+{
     let mut n: u64 = 0;
     'digits: for i in 0..field.len() {
         let byte = field[i];
@@ -214,9 +285,9 @@ fn number_of(field: &[u8], bound: u64) -> Option<u64>
 fn choice_of(field: &[u8], off: &[u8], on: &[u8]) -> Option<bool>
     ensures { result ≡ choice off.now on.now field.now }
 {
-    if field == off {
+    if is_word(field, off) {
         Some(false)
-    } else if field == on {
+    } else if is_word(field, on) {
         Some(true)
     } else {
         None
@@ -247,9 +318,9 @@ fn pair_of(field: &[u8]) -> Option<ToldFeedback>
 fn feedback_of(field: &[u8]) -> Option<ToldFeedback>
     ensures { result ≡ feedback field.now }
 {
-    if field == b"-".as_slice() {
+    if is_word(field, b"-") {
         Some(ToldFeedback::Quiet)
-    } else if field == b"full".as_slice() {
+    } else if is_word(field, b"full") {
         Some(ToldFeedback::Full)
     } else {
         pair_of(field)

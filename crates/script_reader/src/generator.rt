@@ -131,7 +131,11 @@ impl Progress {
     fn done(&mut self) -> LineHead
         requires { self.old.moment ≤ 2 ^ 62 }
         ensures line { result ≡ LineHead.Done 1 self.old.moment (taking_time (drawn self.old.draw)) }
-        ensures after { self.new ≡ record self.old { draw = drawn self.old.draw; moment = self.old.moment + taking_time (drawn self.old.draw) } }
+        ensures after { self.new ≡ record self.old {
+          draw = drawn self.old.draw;
+          moment = self.old.moment + taking_time
+              (drawn self.old.draw);
+        } }
     {
         let moment = self.moment;
         self.draw = next_draw(self.draw);
@@ -254,7 +258,8 @@ impl Progress {
     /// The next line, if one is left.
     fn next(&mut self, body: &mut Body) -> Option<LineHead>
         requires { IsOnTime self.old }
-        ensures { MatchOption result ((left_of self.old ≡ []) × (self.new ≡ self.old)) (λ head. Gives self.old self.new body.new head) }
+        ensures { MatchOption result ((left_of self.old ≡ [])
+            × (self.new ≡ self.old)) (λ head. Gives self.old self.new body.new head) }
     {
         match self.turn {
             Turn::Session => Some(self.session()),
@@ -276,7 +281,11 @@ impl Progress {
     fn next_message(&mut self)
         requires moment { self.old.moment ≤ 2 ^ 62 }
         requires message { self.old.message < 2 ^ 31 }
-        ensures { self.new ≡ record self.old { turn = Turn.Offer; message = self.old.message + 1; moment = self.old.moment + 1000 } }
+        ensures { self.new ≡ record self.old {
+          turn = Turn.Offer;
+          message = self.old.message + 1;
+          moment = self.old.moment + 1000;
+        } }
     {
         self.turn = Turn::Offer;
         self.message += 1;
@@ -317,7 +326,8 @@ impl Generator {
 
     /// As `next_line`, with the bytes that come with the line in the room.
     pub fn next_head(&mut self, body: &mut Body) -> Option<LineHead>
-        ensures next { MatchOption result ((self.old ≡ []) × (self.new ≡ [])) (λ head. self.old ≡ line_with body.new head ∷ self.new) }
+        ensures next { MatchOption result ((self.old ≡ []) × (self.new ≡ [])) (λ head. self.old
+            ≡ line_with body.new head ∷ self.new) }
         ensures lawful { IfSome result (λ head. IsLawfulLine (line_with body.new head)) }
         ensures room { IfSome result (λ head. CanHoldLine head body.new) }
     {

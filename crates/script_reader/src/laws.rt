@@ -9,10 +9,12 @@ ghost use Rattle.script_reader.specs.declared.event.Event.{Event as Printed};
 ghost use Rattle.script_reader.specs.Openings.{Openings, nothing_found, CanOpen, opened_world};
 ghost use Rattle.script_reader.specs.Scripts.{Begun, IsNew, LeadTo, Stops, ComesTo, IsTranscript};
 ghost use Rattle.script_reader.specs.Faults.{IsFaulty, IsScriptFaulty};
-ghost use Rattle.script_reader.specs.Sessions.{session_at, AreRising, Sessions, no_sessions, ScriptLeadsTo, ScriptStops, IsScriptTranscript, ScriptComesTo, lines_of, events_of};
+ghost use Rattle.script_reader.specs.Sessions.{session_at, AreRising, Sessions, no_sessions, ScriptLeadsTo};
+ghost use Rattle.script_reader.specs.Sessions.{ScriptStops, IsScriptTranscript, ScriptComesTo, lines_of, events_of};
 ghost use Rattle.script_reader.specs.Readouts.{row_of, history_of, low_lines, KeepsBounds, Sound};
 ghost use Rattle.script_reader.specs.declared.fault.Fault.{Fault};
-ghost use Rattle.script_reader.specs.Sides.{low_side_of, told_to_low, full_moments, averages, restarts_in, HaveOwnMoments, OpenAlike};
+ghost use Rattle.script_reader.specs.Sides.{low_side_of, told_to_low, full_moments, averages, restarts_in};
+ghost use Rattle.script_reader.specs.Sides.{HaveOwnMoments, OpenAlike};
 ghost use Rattle.script_reader.specs.declared.line.Line.TheVariants.{LowSession};
 ghost use Rattle.pump_frame.specs.declared.row.SessionRow.{SessionRow};
 ghost use Rattle.pump_frame.specs.Averages.{IsLevel};
@@ -21,7 +23,8 @@ ghost use Rattle.pump_core.specs.World.{empty};
 
 /// The bytes of a whole script are one list of lines at most.
 pub fn one_reading()
-    ensures { (all : List ℕ) (a b : List Line) → AreLines (Some all) a (Some []) → AreLines (Some all) b (Some []) → a ≡ b }
+    ensures { (all : List ℕ) (a b : List Line) → AreLines (Some all) a (Some []) → AreLines (Some all) b (Some [])
+        → a ≡ b }
 {}
 
 /// The `low` lines of a transcript are the replies of its low history.
@@ -30,9 +33,9 @@ pub fn low_lines_are_replies()
         LeadTo o None script (Some s) printed → LowReplies (row_of s) (history_of s) (low_lines printed) }
 {}
 
-/// Whatever the disks were found to hold and a script does, no more messages are live than there are places, no more are held than
-/// lie between the hands, the receiver's list is a prefix of the accepted one, and at most 64
-/// arrivals wait.
+/// Whatever the disks were found to hold and a script does, no more messages are live than there
+/// are places, no more are held than lie between the hands, the receiver's list is a prefix of the
+/// accepted one, and at most 64 arrivals wait.
 pub fn transcripts_are_bounded()
     ensures { (o : Openings) (script : List Line) (s : Begun) (printed : List Printed) →
         LeadTo o None script (Some s) printed → KeepsBounds s }
@@ -47,7 +50,8 @@ pub fn transcripts_are_one()
 /// A script with a line that is outside the grammar, or can't be applied after the lines before it,
 /// has no transcript.
 pub fn faulty_scripts_have_no_transcript()
-    ensures { (o : Openings) (all rest : List ℕ) (lines script : List Line) (running : Option Begun) (events printed : List Printed) →
+    ensures { (o : Openings) (all rest : List ℕ) (lines script : List Line) (running : Option Begun)
+        (events printed : List Printed) →
         AreLines (Some all) lines (Some rest) → LeadTo o None lines running events → IsFaulty (Some rest) running →
         AreLines (Some all) script (Some []) → IsTranscript o script printed → ⊥ }
 {}
@@ -55,8 +59,10 @@ pub fn faulty_scripts_have_no_transcript()
 /// What a script has printed is sound at each of its lines, also where the last one stops it: the `low`
 /// lines are the replies of the low history, and the session keeps its bounds.
 pub fn transcripts_are_sound()
-    ensures end { (o : Openings) (script : List Line) (after : Option Begun) (printed : List Printed) → ComesTo o script after printed → Sound after printed }
-    ensures each { (o : Openings) (before : List Line) (line : Line) (later : List Line) (after : Option Begun) (printed : List Printed) →
+    ensures end { (o : Openings) (script : List Line) (after : Option Begun) (printed : List Printed)
+        → ComesTo o script after printed → Sound after printed }
+    ensures each { (o : Openings) (before : List Line) (line : Line) (later : List Line) (after : Option Begun)
+        (printed : List Printed) →
         ComesTo o (before ++ line ∷ later) after printed →
         (mid : Option Begun) × (first : List Printed) × (rest : List Printed) ×
         LeadTo o None before mid first × (printed ≡ first ++ rest) × Sound mid first }
@@ -65,9 +71,12 @@ pub fn transcripts_are_sound()
 /// A script with a line that stops it, after lines that can all be applied, has no transcript, and
 /// what the line leads to, what it prints and its fault are settled.
 pub fn stopping_lines_are_one()
-    ensures apart { (o : Openings) (lines : List Line) (line : Line) (later : List Line) (running after : Option Begun) (events first printed : List Printed) (fault : Fault) →
-        LeadTo o None lines running events → Stops running line after first fault → IsTranscript o (lines ++ line ∷ later) printed → ⊥ }
-    ensures one { (o : Openings) (lines : List Line) (line : Line) (running other after end : Option Begun) (events more first second : List Printed) (fault stop : Fault) →
+    ensures apart { (o : Openings) (lines : List Line) (line : Line) (later : List Line) (running after : Option Begun)
+        (events first printed : List Printed) (fault : Fault) →
+        LeadTo o None lines running events → Stops running line after first fault
+        → IsTranscript o (lines ++ line ∷ later) printed → ⊥ }
+    ensures one { (o : Openings) (lines : List Line) (line : Line) (running other after end : Option Begun)
+        (events more first second : List Printed) (fault stop : Fault) →
         LeadTo o None lines running events → Stops running line after first fault →
         LeadTo o None lines other more → Stops other line end second stop →
         (after ≡ end) × (events ++ first ≡ more ++ second) × (fault ≡ stop) }
@@ -129,7 +138,8 @@ pub fn coarse_sessions_are_told_levels()
 /// A low side alone has one transcript, whatever lines are skipped in its script, and whatever any disks
 /// were found to hold.
 pub fn low_sides_have_one_transcript()
-    ensures { (o p : Openings) (script other : List Line) (row : SessionRow) (next : ℕ) (held : Bool) (later : List Line) (xs ys : List Printed) →
+    ensures { (o p : Openings) (script other : List Line) (row : SessionRow) (next : ℕ) (held : Bool)
+        (later : List Line) (xs ys : List Printed) →
         IsTranscript o script xs → IsTranscript p other ys →
         low_side_of script ≡ LowSession row next held ∷ later → low_side_of other ≡ LowSession row next held ∷ later →
         xs ≡ ys }
@@ -179,9 +189,11 @@ pub fn sessions_begin_new()
 /// the last one stops it, whichever session it is of: the session's `low` lines are the replies of its
 /// low history, and it keeps its bounds.
 pub fn whole_transcripts_are_sound()
-    ensures end { (o : Openings) (script : List Line) (t : Sessions) (printed : List Printed) → ScriptComesTo o script t printed →
+    ensures end { (o : Openings) (script : List Line) (t : Sessions) (printed : List Printed)
+        → ScriptComesTo o script t printed →
         (number : ℕ) → Sound (session_at number t.begun) (events_of number printed) }
-    ensures each { (o : Openings) (before : List Line) (line : Line) (later : List Line) (t : Sessions) (printed : List Printed) →
+    ensures each { (o : Openings) (before : List Line) (line : Line) (later : List Line) (t : Sessions)
+        (printed : List Printed) →
         ScriptComesTo o (before ++ line ∷ later) t printed →
         (mid : Sessions) × (first : List Printed) × (rest : List Printed) ×
         ScriptLeadsTo o no_sessions before mid first × (printed ≡ first ++ rest) ×
@@ -197,17 +209,22 @@ pub fn scripts_have_one_transcript()
 /// A script of several sessions with a line that is outside the grammar, or can't be applied after the
 /// lines before it, whichever sessions they name, has no transcript.
 pub fn faulty_whole_scripts_have_no_transcript()
-    ensures { (o : Openings) (all rest : List ℕ) (lines script : List Line) (t : Sessions) (events printed : List Printed) →
-        AreLines (Some all) lines (Some rest) → ScriptLeadsTo o no_sessions lines t events → IsScriptFaulty (Some rest) t →
+    ensures { (o : Openings) (all rest : List ℕ) (lines script : List Line) (t : Sessions)
+        (events printed : List Printed) →
+        AreLines (Some all) lines (Some rest) → ScriptLeadsTo o no_sessions lines t events
+        → IsScriptFaulty (Some rest) t →
         AreLines (Some all) script (Some []) → IsScriptTranscript o script printed → ⊥ }
 {}
 
 /// A script of several sessions with a line that stops it, after lines that can all be applied, has no
 /// transcript, and what the line leads to, what it prints and its fault are settled.
 pub fn lines_stop_whole_scripts_in_one_way()
-    ensures apart { (o : Openings) (lines : List Line) (line : Line) (later : List Line) (t u : Sessions) (events first printed : List Printed) (fault : Fault) →
-        ScriptLeadsTo o no_sessions lines t events → ScriptStops t line u first fault → IsScriptTranscript o (lines ++ line ∷ later) printed → ⊥ }
-    ensures one { (o : Openings) (lines : List Line) (line : Line) (t v u w : Sessions) (events more first second : List Printed) (fault stop : Fault) →
+    ensures apart { (o : Openings) (lines : List Line) (line : Line) (later : List Line) (t u : Sessions)
+        (events first printed : List Printed) (fault : Fault) →
+        ScriptLeadsTo o no_sessions lines t events → ScriptStops t line u first fault
+        → IsScriptTranscript o (lines ++ line ∷ later) printed → ⊥ }
+    ensures one { (o : Openings) (lines : List Line) (line : Line) (t v u w : Sessions) (events more first second : List
+        Printed) (fault stop : Fault) →
         ScriptLeadsTo o no_sessions lines t events → ScriptStops t line u first fault →
         ScriptLeadsTo o no_sessions lines v more → ScriptStops v line w second stop →
         (u ≡ w) × (events ++ first ≡ more ++ second) × (fault ≡ stop) }
@@ -238,14 +255,16 @@ pub fn low_lines_are_a_function_in_each_session()
 pub fn full_moments_and_averages_decide_in_each_session()
     ensures whole { (o p : Openings) (script other : List Line) (xs ys : List Printed) (number : ℕ) →
         IsScriptTranscript o script xs → IsScriptTranscript p other ys → OpenAlike o p (lines_of number script) →
-        low_side_of (lines_of number script) ≡ low_side_of (lines_of number other) → HaveOwnMoments (low_side_of (lines_of number script)) →
+        low_side_of (lines_of number script) ≡ low_side_of (lines_of number other)
+        → HaveOwnMoments (low_side_of (lines_of number script)) →
         full_moments (events_of number xs) ≡ full_moments (events_of number ys) →
         restarts_in (events_of number xs) ≡ restarts_in (events_of number ys) →
         averages (events_of number xs) ≡ averages (events_of number ys) →
         low_lines (events_of number xs) ≡ low_lines (events_of number ys) }
     ensures so_far { (o p : Openings) (script other : List Line) (t u : Sessions) (xs ys : List Printed) (number : ℕ) →
         ScriptComesTo o script t xs → ScriptComesTo p other u ys → OpenAlike o p (lines_of number script) →
-        low_side_of (lines_of number script) ≡ low_side_of (lines_of number other) → HaveOwnMoments (low_side_of (lines_of number script)) →
+        low_side_of (lines_of number script) ≡ low_side_of (lines_of number other)
+        → HaveOwnMoments (low_side_of (lines_of number script)) →
         full_moments (events_of number xs) ≡ full_moments (events_of number ys) →
         restarts_in (events_of number xs) ≡ restarts_in (events_of number ys) →
         averages (events_of number xs) ≡ averages (events_of number ys) →

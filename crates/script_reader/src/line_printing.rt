@@ -10,7 +10,7 @@ ghost use Rattle.script_reader.specs.Typed.{behind, IsBehind, IsTypedRow, IsType
 
 use crate::head::{ArrivingHead, LineHead};
 use crate::line::{Line, ToldFeedback};
-use crate::printing::{put, put_field, put_front, put_held, put_hex, put_number};
+use crate::printing::{put, put_field, put_held, put_hex, put_number, put_prefix};
 use arrayvec::ArrayVec;
 use pump_frame::{Name, SessionRow};
 
@@ -137,12 +137,13 @@ fn put_triple<const N: usize>(
 )
     requires room { array_vec_len into.old + 200 ≤ N }
     requires short { length word.now ≤ 16 }
-    ensures fields { IsBehind into.old.items into.new.items word.now (decimal session ∷ decimal moment ∷ decimal number ∷ []) }
+    ensures fields { IsBehind into.old.items into.new.items word.now (decimal session ∷ decimal moment ∷ decimal
+        number ∷ []) }
     ensures len { array_vec_len into.new ≤ array_vec_len into.old + 139 }
     ensures session { session < 2 ^ 32 }
     ensures number { number < 2 ^ 64 }
 {
-    put_front(into, word, session, moment);
+    put_prefix(into, word, session, moment);
     put_field(into, number);
 }
 
@@ -156,12 +157,13 @@ fn put_step<const N: usize>(
 )
     requires room { array_vec_len into.old + 200 ≤ N }
     requires short { length name.now ≤ 16 }
-    ensures fields { IsBehind into.old.items into.new.items name.now (decimal session ∷ decimal moment ∷ word_field word ∷ []) }
+    ensures fields { IsBehind into.old.items into.new.items name.now (decimal session ∷ decimal moment ∷ word_field
+        word ∷ []) }
     ensures len { array_vec_len into.new ≤ array_vec_len into.old + 107 }
     ensures session { session < 2 ^ 32 }
     ensures word { IsWord word (word_field word) }
 {
-    put_front(into, name, session, moment);
+    put_prefix(into, name, session, moment);
     put_word(into, word);
 }
 
@@ -229,9 +231,9 @@ fn put_line<const N: usize>(into: &mut ArrayVec<u8, N>, head: &LineHead, body: &
             moment,
             word,
         } => put_step(into, b"step", *session, *moment, *word),
-        LineHead::Gone { session, moment } => put_front(into, b"gone", *session, *moment),
-        LineHead::High { session, moment } => put_front(into, b"high", *session, *moment),
-        LineHead::Carry { session, back } => put_front(into, b"carry", *session, *back),
+        LineHead::Gone { session, moment } => put_prefix(into, b"gone", *session, *moment),
+        LineHead::High { session, moment } => put_prefix(into, b"high", *session, *moment),
+        LineHead::Carry { session, back } => put_prefix(into, b"carry", *session, *back),
         LineHead::Return {
             session,
             moment,
@@ -242,9 +244,9 @@ fn put_line<const N: usize>(into: &mut ArrayVec<u8, N>, head: &LineHead, body: &
             moment,
             time,
         } => put_triple(into, b"done", *session, *moment, u64::from(*time)),
-        LineHead::Restart { session, moment } => put_front(into, b"restart", *session, *moment),
+        LineHead::Restart { session, moment } => put_prefix(into, b"restart", *session, *moment),
         LineHead::ReceiverRestart { session, moment } => {
-            put_front(into, b"receiver-restart", *session, *moment)
+            put_prefix(into, b"receiver-restart", *session, *moment)
         }
     }
 }
@@ -257,7 +259,8 @@ pub fn append_line<const N: usize>(head: &LineHead, body: &[u8], into: &mut Arra
     ensures line { into.new.items ≡ into.old.items ++ line_text (line_with body.now head.now) }
     ensures len { array_vec_len into.new ≤ array_vec_len into.old + 2400 }
     // What stands before the line end is this line.
-    ensures reads { IsLawfulLine (line_with body.now head.now) → IsLine (line_with body.now head.now) (line_spelling (line_with body.now head.now)) }
+    ensures reads { IsLawfulLine (line_with body.now head.now)
+        → IsLine (line_with body.now head.now) (line_spelling (line_with body.now head.now)) }
 {
     put_line(into, head, body);
     put(into, b"\n");

@@ -1,10 +1,11 @@
 // A reader of the lines of a script.
-ghost use Rattle.std.specs.Prelude.{◌≡◌, ◌≢◌, ◌+◌, ◌-◌, ◌^◌, ◌<◌, ◌≤◌, min, [], length, take, drop, position, Some, IsTrue, ◌↔◌, IfOk};
+ghost use Rattle.std.specs.Prelude.{◌≡◌, ◌≢◌, ◌+◌, ◌-◌, ◌^◌, ◌<◌, ◌≤◌, min, [], length, take, drop, position, Some};
+ghost use Rattle.std.specs.Prelude.{IsTrue, ◌↔◌, IfOk};
 ghost use Rattle.std.specs.Io.KnownBytes.{Keeps, IsAtEnd};
 ghost use Rattle.pump_frame.specs.Counts.{Rose};
 ghost use Rattle.pump_link.specs.Causes.{HasCause};
 ghost use Rattle.script_reader.specs.Lines.{LineReading, to_come, is_end, IsNextLine, LineIsReady, ReadsOn};
-ghost use Rattle.script_reader.specs.Fronts.{IsFirst, Fills};
+ghost use Rattle.script_reader.specs.Prefixes.{IsFirst, Fills};
 ghost use Rattle.script_reader.specs.Heads.{lined_with, CanHoldNext};
 
 use crate::body::Body;
@@ -155,8 +156,10 @@ impl Lines {
     /// As `next`, with the bytes that come with the line in the room. It moves little, where a line
     /// with its bytes has more than 1 KB.
     pub fn next_head<I: Source>(&mut self, script: &mut I, body: &mut Body) -> LinedHead
-        ensures next { IsNextLine self.old self.new (I.left script.old) (I.left script.new) (lined_with body.new result) }
-        ensures reads { ReadsOn self.old self.new (I.gives script.old) (I.gives script.new) (lined_with body.new result) }
+        ensures next { IsNextLine self.old self.new (I.left script.old) (I.left script.new)
+            (lined_with body.new result) }
+        ensures reads { ReadsOn self.old self.new (I.gives script.old) (I.gives script.new)
+            (lined_with body.new result) }
         ensures room { CanHoldNext result body.new }
         ensures failed { result ≡ LinedHead.Failed → Rose (I.faults script.old) (I.faults script.new) }
         ensures later { I.faults script.old ≤ I.faults script.new }
@@ -199,7 +202,8 @@ impl Lines {
     /// What is held at the end of the script, where no line end stands in it.
     fn last(&mut self) -> LinedHead
         ensures end { self.old.held ≡ [] → (result ≡ LinedHead.End) × (self.new ≡ self.old) }
-        ensures bad { self.old.held ≢ [] → (result ≡ LinedHead.Bad) × (self.new ≡ record { held = self.old.held; number = min (self.old.number + 1) (2 ^ 32 - 1) }) }
+        ensures bad { self.old.held ≢ [] → (result ≡ LinedHead.Bad)
+            × (self.new ≡ record { held = self.old.held; number = min (self.old.number + 1) (2 ^ 32 - 1) }) }
     {
         if self.held().is_empty() {
             return LinedHead::End;

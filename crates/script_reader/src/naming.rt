@@ -2,7 +2,8 @@
 
 ghost use Rattle.std.specs.Prelude.{◌≡◌, ℕ, List};
 ghost use Rattle.script_reader.specs.Heads.{line_with};
-ghost use Rattle.script_reader.specs.Sessions.{session_in, begins_session as begins, stands_first as is_first, moment_in};
+ghost use Rattle.script_reader.specs.Sessions.{session_in, begins_session as begins, stands_first as is_first};
+ghost use Rattle.script_reader.specs.Sessions.{moment_in};
 
 use crate::head::LineHead;
 

@@ -1,8 +1,10 @@
 // Printing the lines of a transcript, and the line of a fault.
-ghost use Rattle.std.specs.Prelude.{◌≡◌, ◌+◌, ◌*◌, ◌^◌, ◌<◌, ◌≤◌, [], ◌∷◌, ◌++◌, None, Some, length, codes, decimal, slice_index};
+ghost use Rattle.std.specs.Prelude.{◌≡◌, ◌+◌, ◌*◌, ◌^◌, ◌<◌, ◌≤◌, [], ◌∷◌, ◌++◌, None, Some, length, codes, decimal};
+ghost use Rattle.std.specs.Prelude.{slice_index};
 ghost use Rattle.arrayvec.specs.ArrayVec.{array_vec_len};
 ghost use Rattle.script_reader.specs.EventHeads.{event_of};
-ghost use Rattle.script_reader.specs.Transcript.{role_field, reply_fields, high_fields, time_field, event_line, fault_line, line_with_end};
+ghost use Rattle.script_reader.specs.Transcript.{role_field, reply_fields, high_fields, time_field, event_line};
+ghost use Rattle.script_reader.specs.Transcript.{fault_line, line_with_end};
 ghost use Rattle.script_reader.specs.Grammar.{held_field};
 ghost use Rattle.hex.specs.Hex.{encode_lower};
 ghost use Rattle.script_reader.specs.HexFields.{hex_field};
@@ -82,7 +84,7 @@ pub(crate) fn put_hex<const N: usize>(into: &mut ArrayVec<u8, N>, bytes: &[u8])
 }
 
 /// A word, a session and a number: what most lines begin with.
-pub(crate) fn put_front<const N: usize>(
+pub(crate) fn put_prefix<const N: usize>(
     into: &mut ArrayVec<u8, N>,
     word: &[u8],
     session: u32,
@@ -117,7 +119,7 @@ fn put_two<const N: usize>(into: &mut ArrayVec<u8, N>, word: &[u8], session: u32
     requires short { length word.now ≤ 40 }
     ensures { into.new.items ≡ into.old.items ++ line_with_end (word.now ∷ decimal session ∷ decimal number ∷ []) }
 {
-    put_front(into, word, session, number);
+    put_prefix(into, word, session, number);
     put(into, b"\n");
 }
 
@@ -131,9 +133,10 @@ fn put_three<const N: usize>(
 )
     requires room { array_vec_len into.old + 256 ≤ N }
     requires short { length word.now ≤ 40 }
-    ensures { into.new.items ≡ into.old.items ++ line_with_end (word.now ∷ decimal session ∷ decimal first ∷ decimal second ∷ []) }
+    ensures { into.new.items ≡ into.old.items ++ line_with_end (word.now ∷ decimal session ∷ decimal first ∷ decimal
+        second ∷ []) }
 {
-    put_front(into, word, session, first);
+    put_prefix(into, word, session, first);
     put_field(into, second);
     put(into, b"\n");
 }
@@ -149,9 +152,10 @@ fn put_four<const N: usize>(
 )
     requires room { array_vec_len into.old + 256 ≤ N }
     requires short { length word.now ≤ 40 }
-    ensures { into.new.items ≡ into.old.items ++ line_with_end (word.now ∷ decimal session ∷ decimal first ∷ decimal second ∷ decimal third ∷ []) }
+    ensures { into.new.items ≡ into.old.items ++ line_with_end (word.now ∷ decimal session ∷ decimal first ∷ decimal
+        second ∷ decimal third ∷ []) }
 {
-    put_front(into, word, session, first);
+    put_prefix(into, word, session, first);
     put_field(into, second);
     put_field(into, third);
     put(into, b"\n");
@@ -167,9 +171,10 @@ fn put_numbered<const N: usize>(
 )
     requires room { array_vec_len into.old + 256 ≤ N }
     requires short { length word.now ≤ 40 }
-    ensures { into.new.items ≡ into.old.items ++ line_with_end (codes "low" ∷ decimal session ∷ decimal moment ∷ word.now ∷ decimal number ∷ []) }
+    ensures { into.new.items ≡ into.old.items ++ line_with_end (codes "low" ∷ decimal session ∷ decimal
+        moment ∷ word.now ∷ decimal number ∷ []) }
 {
-    put_front(into, b"low", session, moment);
+    put_prefix(into, b"low", session, moment);
     put(into, b" ");
     put(into, word);
     put_field(into, number);
@@ -184,9 +189,10 @@ fn put_refusal<const N: usize>(
     number: u64,
 )
     requires { array_vec_len into.old + 256 ≤ N }
-    ensures { into.new.items ≡ into.old.items ++ line_with_end (codes "low" ∷ decimal session ∷ decimal moment ∷ codes "refuse" ∷ decimal code ∷ decimal number ∷ []) }
+    ensures { into.new.items ≡ into.old.items ++ line_with_end (codes "low" ∷ decimal session ∷ decimal moment ∷ codes
+        "refuse" ∷ decimal code ∷ decimal number ∷ []) }
 {
-    put_front(into, b"low", session, moment);
+    put_prefix(into, b"low", session, moment);
     put(into, b" refuse");
     put_field(into, u64::from(code));
     put_field(into, number);
@@ -205,7 +211,8 @@ fn code_of(reply: &Frame) -> u8
 
 fn put_reply<const N: usize>(into: &mut ArrayVec<u8, N>, session: u32, moment: u64, reply: &Frame)
     requires { array_vec_len into.old + 256 ≤ N }
-    ensures { into.new.items ≡ into.old.items ++ line_with_end (codes "low" ∷ decimal session ∷ decimal moment ∷ reply_fields reply.now.kind reply.now.number reply.now.payload) }
+    ensures { into.new.items ≡ into.old.items ++ line_with_end (codes "low" ∷ decimal session ∷ decimal
+        moment ∷ reply_fields reply.now.kind reply.now.number reply.now.payload) }
 {
     match reply.kind {
         Kind::Welcome => put_numbered(into, session, moment, b"welcome", reply.number),
@@ -237,9 +244,10 @@ fn put_removed<const N: usize>(
     time: Option<u32>,
 )
     requires { array_vec_len into.old + 256 ≤ N }
-    ensures { into.new.items ≡ into.old.items ++ line_with_end (codes "removed" ∷ decimal session ∷ decimal moment ∷ decimal number ∷ time_field time ∷ []) }
+    ensures { into.new.items ≡ into.old.items ++ line_with_end (codes "removed" ∷ decimal session ∷ decimal
+        moment ∷ decimal number ∷ time_field time ∷ []) }
 {
-    put_front(into, b"removed", session, moment);
+    put_prefix(into, b"removed", session, moment);
     put_field(into, number);
     put_time(into, time);
     put(into, b"\n");
@@ -267,9 +275,10 @@ fn put_restart<const N: usize>(
     held: bool,
 )
     requires { array_vec_len into.old + 256 ≤ N }
-    ensures { into.new.items ≡ into.old.items ++ line_with_end (codes "restart" ∷ decimal session ∷ decimal moment ∷ decimal accepted ∷ decimal removed ∷ held_field held ∷ []) }
+    ensures { into.new.items ≡ into.old.items ++ line_with_end (codes "restart" ∷ decimal session ∷ decimal
+        moment ∷ decimal accepted ∷ decimal removed ∷ held_field held ∷ []) }
 {
-    put_front(into, b"restart", session, moment);
+    put_prefix(into, b"restart", session, moment);
     put_field(into, accepted);
     put_field(into, removed);
     put_held(into, held);
@@ -283,14 +292,15 @@ fn put_end<const N: usize>(
     high: Option<(u64, u64)>,
 )
     requires { array_vec_len into.old + 256 ≤ N }
-    ensures { into.new.items ≡ into.old.items ++ line_with_end (codes "end" ∷ decimal session ∷ decimal accepted ∷ high_fields high) }
+    ensures { into.new.items ≡ into.old.items ++ line_with_end (codes "end" ∷ decimal session ∷ decimal
+        accepted ∷ high_fields high) }
 {
     match high {
         Some((removed, received)) => {
             put_four(into, b"end", session, accepted, removed, received)
         }
         None => {
-            put_front(into, b"end", session, accepted);
+            put_prefix(into, b"end", session, accepted);
             put(into, b" - -");
             put(into, b"\n");
         }
@@ -307,7 +317,8 @@ fn put_seen<const N: usize>(
 )
     requires room { array_vec_len into.old + 256 ≤ N }
     requires short { length word.now ≤ 40 }
-    ensures { into.new.items ≡ into.old.items ++ line_with_end (word.now ∷ decimal session ∷ decimal moment ∷ decimal seen.now.count ∷ decimal seen.now.average ∷ []) }
+    ensures { into.new.items ≡ into.old.items ++ line_with_end (word.now ∷ decimal session ∷ decimal moment ∷ decimal
+        seen.now.count ∷ decimal seen.now.average ∷ []) }
 {
     put_four(
         into,
@@ -338,9 +349,10 @@ fn put_live<const N: usize>(
     payload: &Payload,
 )
     requires { array_vec_len into.old + 2400 ≤ N }
-    ensures { into.new.items ≡ into.old.items ++ line_with_end (codes "live" ∷ decimal session ∷ decimal number ∷ hex_field payload.now ∷ []) }
+    ensures { into.new.items ≡ into.old.items ++ line_with_end (codes "live" ∷ decimal session ∷ decimal
+        number ∷ hex_field payload.now ∷ []) }
 {
-    put_front(into, b"live", session, number);
+    put_prefix(into, b"live", session, number);
     put_hex(into, payload.as_slice());
     put(into, b"\n");
 }
@@ -457,7 +469,12 @@ fn put_role<const N: usize>(into: &mut ArrayVec<u8, N>, role: Role)
 }
 
 /// A word, a session and which of its disks: what a fault of a disk begins with.
-fn put_disk_front<const N: usize>(into: &mut ArrayVec<u8, N>, word: &[u8], session: u32, role: Role)
+fn put_disk_prefix<const N: usize>(
+    into: &mut ArrayVec<u8, N>,
+    word: &[u8],
+    session: u32,
+    role: Role,
+)
     requires room { array_vec_len into.old + 256 ≤ N }
     requires short { length word.now ≤ 40 }
     ensures fields { IsBehind into.old.items into.new.items word.now (decimal session ∷ role_field role ∷ []) }
@@ -470,9 +487,10 @@ fn put_disk_front<const N: usize>(into: &mut ArrayVec<u8, N>, word: &[u8], sessi
 
 fn put_device<const N: usize>(into: &mut ArrayVec<u8, N>, session: u32, role: Role)
     requires { array_vec_len into.old + 256 ≤ N }
-    ensures { into.new.items ≡ into.old.items ++ line_with_end (codes "fault" ∷ codes "device" ∷ decimal session ∷ role_field role ∷ []) }
+    ensures { into.new.items ≡ into.old.items ++ line_with_end (codes "fault" ∷ codes "device" ∷ decimal
+        session ∷ role_field role ∷ []) }
 {
-    put_disk_front(into, b"fault device", session, role);
+    put_disk_prefix(into, b"fault device", session, role);
     put(into, b"\n");
 }
 
@@ -485,9 +503,10 @@ fn put_disk<const N: usize>(
     second: u64,
 )
     requires { array_vec_len into.old + 256 ≤ N }
-    ensures { into.new.items ≡ into.old.items ++ line_with_end (codes "fault" ∷ codes "disk" ∷ decimal session ∷ role_field role ∷ decimal number ∷ decimal first ∷ decimal second ∷ []) }
+    ensures { into.new.items ≡ into.old.items ++ line_with_end (codes "fault" ∷ codes "disk" ∷ decimal
+        session ∷ role_field role ∷ decimal number ∷ decimal first ∷ decimal second ∷ []) }
 {
-    put_disk_front(into, b"fault disk", session, role);
+    put_disk_prefix(into, b"fault disk", session, role);
     put_field(into, u64::from(number));
     put_field(into, first);
     put_field(into, second);

@@ -3,10 +3,14 @@ ghost use Rattle.std.specs.Prelude.{◌≡◌, ℕ, ◌+◌, ◌^◌, List, IfSo
 ghost use Rattle.script_reader.specs.Heads.{arriving_with, line_with, CanHold, CanHoldLine};
 ghost use Rattle.script_reader.specs.Grammar.{IsLine};
 ghost use Rattle.script_reader.specs.Lawful.{IsLawfulLine};
-ghost use Rattle.script_reader.specs.Parsing.{Reads, field_at, number, row_behind, row_at, session_of, low_session_of, coarse_of, hello_of, data_of, raw_of, arriving_of, look_of, told_behind, told_of, stepped_of, session_and_moment, gone_of, high_of, carry_of, return_of, done_of, restart_of, receiver_restart_of, numbered_step_of, plain_step_of, step_of, line_of, line_at};
+ghost use Rattle.script_reader.specs.Parsing.{Reads, field_at, number, row_behind, row_at, session_of, low_session_of};
+ghost use Rattle.script_reader.specs.Parsing.{coarse_of, hello_of, data_of, raw_of, arriving_of, look_of, told_behind};
+ghost use Rattle.script_reader.specs.Parsing.{told_of, stepped_of, session_and_moment, gone_of, high_of, carry_of};
+ghost use Rattle.script_reader.specs.Parsing.{return_of, done_of, restart_of, receiver_restart_of, numbered_step_of};
+ghost use Rattle.script_reader.specs.Parsing.{plain_step_of, step_of, line_of, line_at};
 
 use crate::body::Body;
-use crate::fields::Fields;
+use crate::fields::{Fields, is_word};
 use crate::head::{ArrivingHead, LineHead};
 use crate::line::Line;
 use pump_frame::SessionRow;
@@ -64,13 +68,13 @@ fn read_fields(fields: &mut Fields, body: &mut Body) -> Option<LineHead>
     ensures room { IfSome result (λ it. CanHoldLine it body.new) }
 {
     let word = fields.next()?;
-    if word == b"session".as_slice() {
+    if is_word(word, b"session") {
         return read_session(fields);
     }
-    if word == b"low-session".as_slice() {
+    if is_word(word, b"low-session") {
         return read_low_session(fields);
     }
-    if word == b"coarse".as_slice() {
+    if is_word(word, b"coarse") {
         return read_coarse(fields);
     }
     read_step(word, fields, body)
@@ -82,10 +86,10 @@ fn read_step(word: &[u8], fields: &mut Fields, body: &mut Body) -> Option<LineHe
     ensures value { option_map (line_with body.new) result ≡ step_of word.now fields.old }
     ensures room { IfSome result (λ it. CanHoldLine it body.new) }
 {
-    if word == b"look".as_slice() {
+    if is_word(word, b"look") {
         return read_look(fields, body);
     }
-    if word == b"told".as_slice() {
+    if is_word(word, b"told") {
         return read_told(fields, body);
     }
     read_plain_step(word, fields)
@@ -97,16 +101,16 @@ fn read_plain_step(word: &[u8], fields: &mut Fields) -> Option<LineHead>
     ensures value { (bytes : List ℕ) → option_map (line_with bytes) result ≡ plain_step_of word.now fields.old }
     ensures room { (bytes : List ℕ) → IfSome result (λ it. CanHoldLine it bytes) }
 {
-    if word == b"gone".as_slice() {
+    if is_word(word, b"gone") {
         return read_gone(fields);
     }
-    if word == b"high".as_slice() {
+    if is_word(word, b"high") {
         return read_high(fields);
     }
-    if word == b"restart".as_slice() {
+    if is_word(word, b"restart") {
         return read_restart(fields);
     }
-    if word == b"receiver-restart".as_slice() {
+    if is_word(word, b"receiver-restart") {
         return read_receiver_restart(fields);
     }
     read_numbered_step(word, fields)
@@ -118,16 +122,16 @@ fn read_numbered_step(word: &[u8], fields: &mut Fields) -> Option<LineHead>
     ensures value { (bytes : List ℕ) → option_map (line_with bytes) result ≡ numbered_step_of word.now fields.old }
     ensures room { (bytes : List ℕ) → IfSome result (λ it. CanHoldLine it bytes) }
 {
-    if word == b"carry".as_slice() {
+    if is_word(word, b"carry") {
         return read_carry(fields);
     }
-    if word == b"return".as_slice() {
+    if is_word(word, b"return") {
         return read_return(fields);
     }
-    if word == b"done".as_slice() {
+    if is_word(word, b"done") {
         return read_done(fields);
     }
-    if word == b"step".as_slice() {
+    if is_word(word, b"step") {
         return read_stepped(fields);
     }
     None
@@ -264,13 +268,13 @@ fn read_arriving(fields: &mut Fields, body: &mut Body) -> Option<ArrivingHead>
     let Some(word) = fields.next() else {
         return Some(ArrivingHead::Nothing);
     };
-    if word == b"hello".as_slice() {
+    if is_word(word, b"hello") {
         return read_hello(fields);
     }
-    if word == b"data".as_slice() {
+    if is_word(word, b"data") {
         return read_data(fields, body);
     }
-    if word == b"raw".as_slice() {
+    if is_word(word, b"raw") {
         return read_raw(fields, body);
     }
     None

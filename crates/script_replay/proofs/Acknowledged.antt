@@ -158,9 +158,9 @@ module _ {X : Type 0} (P : X → Type 0) where
   all_append [] ys a b = b
   all_append (x ∷ xs) ys a b = (a.0, all_append xs ys a.1 b)
 
-  all_front : (xs ys : List X) → AllByRecursion P (xs ++ ys) → AllByRecursion P xs
-  all_front [] ys a = tt
-  all_front (x ∷ xs) ys a = (a.0, all_front xs ys a.1)
+  all_prefix : (xs ys : List X) → AllByRecursion P (xs ++ ys) → AllByRecursion P xs
+  all_prefix [] ys a = tt
+  all_prefix (x ∷ xs) ys a = (a.0, all_prefix xs ys a.1)
 
   all_rest : (xs ys : List X) → AllByRecursion P (xs ++ ys) → AllByRecursion P ys
   all_rest [] ys a = a
@@ -176,7 +176,7 @@ none_of number [] none = tt
 none_of number (x ∷ printed) none =
     let later = none_of number printed (all_rest IsNoAck (low_line x) (low_lines printed) none) in
     elim (event_session x == number) as (λ b. HaveNoAck (cond b (x ∷ events_of number printed) (events_of number printed))) [
-      | true ↦ all_append IsNoAck (low_line x) (low_lines (events_of number printed)) (all_front IsNoAck (low_line x) (low_lines printed) none) later
+      | true ↦ all_append IsNoAck (low_line x) (low_lines (events_of number printed)) (all_prefix IsNoAck (low_line x) (low_lines printed) none) later
       | false ↦ later
     ]
 

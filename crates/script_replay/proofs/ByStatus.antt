@@ -12,7 +12,7 @@ use Rattle.script_replay.specs.Runners.{EndsAs}
 use Rattle.script_replay.specs.Shelves.{Places, shelved}
 use Rattle.script_replay.specs.declared.ended.Ended.{Ended}
 use Rattle.script_replay.specs.declared.ended.Ended.TheVariants as ended
-use Rattle.script_replay.proofs.Headline.{HoldsAtEnds, outlives, fronts, wrote_finished, wrote_unread, wrote_front, wrote_faulted, wrote_down, wrote_barred, wrote_full}
+use Rattle.script_replay.proofs.Headline.{HoldsAtEnds, outlives, prefixes, wrote_finished, wrote_unread, wrote_prefix, wrote_faulted, wrote_down, wrote_barred, wrote_full}
 use Rattle.script_replay.proofs.Completes.{completes}
 use Rattle.script_replay.proofs.OneStatus.{done_only, faulted_only, full_only, told_only}
 
@@ -66,7 +66,7 @@ module _ (before after : Places) (fails : ℕ → Role → Type 0) (all left old
   holds : (Holds : _) → HoldsAtEnds before after Holds → (end : Ended) → Ends end → (end_status end ≡ 1 → ⊥) → EndedWith (end_status end) (shelved before after) all left old new was now Holds
   holds Holds h ended.Done ends wrote = wrote_finished before after all left was now Holds h old new ends
   holds Holds h ended.Memory ends wrote = absurd (wrote refl)
-  holds Holds h ended.Write ends wrote = wrote_front before after all left was now Holds h old new ends
+  holds Holds h ended.Write ends wrote = wrote_prefix before after all left was now Holds h old new ends
   holds Holds h (ended.Stopped faults.Words) ends wrote = absurd ends
   holds Holds h (ended.Stopped faults.Read) ends wrote = wrote_unread before after all left was now Holds h old new ends
   holds Holds h (ended.Stopped (faults.Script line)) ends wrote = wrote_faulted before after all left was now Holds h old new ends
@@ -87,7 +87,7 @@ module _ (before after : Places) (fails : ℕ → Role → Type 0) (all left old
     full = λ is. let (session, at, length, size, e) = of_status 10 end is in full_only (shelved before after) all old new left (subst Ends e ends);
     completes = λ bytes told can. completes before after fails all left old new was now bytes told can end ends downs;
     outlives = holds (HaveOutlived after) (outlives before after) end ends;
-    prefix = holds (HaveReceived after) (fronts before after) end ends;
+    prefix = holds (HaveReceived after) (prefixes before after) end ends;
   }
 
 -- where there was no memory before anything was read

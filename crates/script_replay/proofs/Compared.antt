@@ -5,7 +5,7 @@ use Rattle.script_reader.specs.declared.event.Event.{Event}
 use Rattle.script_reader.specs.Openings.{Openings}
 use Rattle.script_reader.specs.Lines.{AreLines, IsBad}
 use Rattle.script_reader.specs.Sessions.{Sessions, ScriptLeads, ScriptLeadsTo}
-use Rattle.script_reader.proofs.LineEnds.{one_front}
+use Rattle.script_reader.proofs.LineEnds.{one_prefix}
 use Rattle.script_reader.proofs.LineLaws.{one_line}
 use Rattle.script_reader.proofs.OneReading.{taken, not_nothing}
 use Rattle.script_reader.proofs.OneWhole.{script_leads_one}
@@ -35,7 +35,7 @@ pub same_line : (rest : List ℕ) (x y : Line) (a b : Option (List ℕ)) → Are
 same_line rest x y a b p q =
     let t = taken rest p.0 p.1 p.4 in
     let u = taken rest q.0 q.1 q.4 in
-    let same = one_front p.0 q.0 t.0 u.0 p.2 q.2 (sym t.2 ∙ u.2) in
+    let same = one_prefix p.0 q.0 t.0 u.0 p.2 q.2 (sym t.2 ∙ u.2) in
     one_line q.0 x y (rw same.0 at p.3) q.3
 
 -- the rest is told where the whole is
@@ -67,7 +67,7 @@ compare o all r1 r2 (x ∷ xs) [] from a b es fs p h q k same first second = sec
 compare o all r1 r2 (x ∷ xs) (y ∷ ys) from a b es fs p h q k same first second =
     let t = taken all p.0 p.1 p.4 in
     let u = taken all q.0 q.1 q.4 in
-    let one = one_front p.0 q.0 t.0 u.0 p.2 q.2 (sym t.2 ∙ u.2) in
+    let one = one_prefix p.0 q.0 t.0 u.0 p.2 q.2 (sym t.2 ∙ u.2) in
     let line : x ≡ y = one_line q.0 x y (rw one.0 at p.3) q.3 in
     let left : AreLines (Some u.0) xs (Some r1) = rw (t.1, one.1) at p.5 in
     let right : AreLines (Some u.0) ys (Some r2) = rw u.1 at q.5 in

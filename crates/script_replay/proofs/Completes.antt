@@ -16,7 +16,7 @@ use Rattle.script_reader.specs.Lines.{AreLines}
 use Rattle.script_reader.specs.Openings.{Openings}
 use Rattle.script_reader.specs.Scripts.{Begun, Whole, Alone, Stops}
 use Rattle.script_reader.specs.Sessions.{Sessions, no_sessions, session_at, events_of, StopsOne}
-use Rattle.script_reader.proofs.LineEnds.{one_front}
+use Rattle.script_reader.proofs.LineEnds.{one_prefix}
 use Rattle.script_reader.proofs.LineLaws.{one_line}
 use Rattle.script_reader.proofs.OneReading.{taken}
 use Rattle.script_replay.specs.Ends.{end_status}
@@ -37,25 +37,25 @@ use Rattle.two_worlds.proofs.Opening.Refusing.{never_refused}
 -- ---- lines of one script ----
 
 -- what holds of all lines of a script holds of each that it begins with, and of the next one
-record Front (P : Line → Type 0) (rest : List ℕ) (read : List Line) : Type 0 where
+record Prefix (P : Line → Type 0) (rest : List ℕ) (read : List Line) : Type 0 where
   all : AllByRecursion P read
   next : (line : Line) (left : Option (List ℕ)) → AreLines (Some rest) (line ∷ []) left → P line
 
-front : (P : Line → Type 0) (all none rest : List ℕ) (script read : List Line) → AreLines (Some all) script (Some none) → none ≡ [] → AreLines (Some all) read (Some rest) → AllByRecursion P script → Front P rest read
-front P all none rest [] [] p empty q h = record { all = tt; next = λ line left k. absurd (no_line rest line left k (q ∙ sym p ∙ empty)) }
-front P all none rest (x ∷ xs) [] p empty q h = record {
+prefix : (P : Line → Type 0) (all none rest : List ℕ) (script read : List Line) → AreLines (Some all) script (Some none) → none ≡ [] → AreLines (Some all) read (Some rest) → AllByRecursion P script → Prefix P rest read
+prefix P all none rest [] [] p empty q h = record { all = tt; next = λ line left k. absurd (no_line rest line left k (q ∙ sym p ∙ empty)) }
+prefix P all none rest (x ∷ xs) [] p empty q h = record {
   all = tt;
   next = λ line left k. subst P (same_line all x line p.1 left (p.0, p.1, p.2, p.3, p.4, Keeps-same p.1) (subst (λ (r : List ℕ). AreLines (Some r) (line ∷ []) left) q k)) h.0;
 }
-front P all none rest [] (y ∷ ys) p empty q h = absurd (no_line all y q.1 (q.0, q.1, q.2, q.3, q.4, Keeps-same q.1) (sym p ∙ empty))
-front P all none rest (x ∷ xs) (y ∷ ys) p empty q h =
+prefix P all none rest [] (y ∷ ys) p empty q h = absurd (no_line all y q.1 (q.0, q.1, q.2, q.3, q.4, Keeps-same q.1) (sym p ∙ empty))
+prefix P all none rest (x ∷ xs) (y ∷ ys) p empty q h =
     let t = taken all p.0 p.1 p.4 in
     let u = taken all q.0 q.1 q.4 in
-    let one = one_front p.0 q.0 t.0 u.0 p.2 q.2 (sym t.2 ∙ u.2) in
+    let one = one_prefix p.0 q.0 t.0 u.0 p.2 q.2 (sym t.2 ∙ u.2) in
     let line : x ≡ y = one_line q.0 x y (subst (IsLine x) one.0 p.3) q.3 in
     let left : AreLines (Some u.0) xs (Some none) = subst (λ (r : Option (List ℕ)). AreLines r xs (Some none)) (t.1 ∙ ap Some one.1) p.5 in
     let right : AreLines (Some u.0) ys (Some rest) = subst (λ (r : Option (List ℕ)). AreLines r ys (Some rest)) u.1 q.5 in
-    let later = front P u.0 none rest xs ys left empty right h.1 in
+    let later = prefix P u.0 none rest xs ys left empty right h.1 in
     record { all = (subst P line h.0, later.all); next = later.next }
 
 -- ---- what was found ----
@@ -104,7 +104,7 @@ module _ (before after : Places) (bytes : List ℕ) (can : CanFinish before byte
   same =
       let told = told_rest bytes r.lines r.rest r.so_far.spelled in
       let spelled = subst (λ (x : Option (List ℕ)). AreLines (Some bytes) r.lines x) told.1 r.so_far.spelled in
-      let f = front (IsFoundFor before o) bytes can.ends.rest told.0 can.ends.lines r.lines can.ends.so_far.spelled can.ends.is_end spelled can.found in
+      let f = prefix (IsFoundFor before o) bytes can.ends.rest told.0 can.ends.lines r.lines can.ends.so_far.spelled can.ends.is_end spelled can.found in
       record {
         rest = told.0;
         rest_is = told.1;

@@ -55,8 +55,8 @@ one_found before row lawful f g s t = one_standing row lawful f g _ _ _ s t
 -- ---- a row that is not coarse ----
 
 module _ (row : SessionRow) where
-  header : (role : ℕ) (front : List ℕ) → HasHeader (coarsened row) role front → HasHeader row role front
-  header role front h = record { version = h.version; known = h.known; mark = h.mark; numbers = h.numbers }
+  header : (role : ℕ) (prefix : List ℕ) → HasHeader (coarsened row) role prefix → HasHeader row role prefix
+  header role prefix h = record { version = h.version; known = h.known; mark = h.mark; numbers = h.numbers }
 
   slot : (n : ℕ) (message disk : List ℕ) → InSlot (coarsened row) n message disk → InSlot row n message disk
   slot n message disk s = record { fits = s.fits; bytes = s.bytes }

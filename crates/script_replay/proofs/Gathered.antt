@@ -3,7 +3,7 @@ use Rattle.std.proofs.Common.{◌≡◌, ℕ, ◌+◌, ◌<◌, List, [], ◌∷
 use Rattle.std.proofs.lemmas.List.{map-append, take-append-drop, take_more}
 use Rattle.std.proofs.lemmas.List.Concat.{flat_map-append}
 use Rattle.std.specs.Io.KnownBytes.{Appends}
-use Rattle.pump_link.specs.Causes.{AppendsFront, HasCause}
+use Rattle.pump_link.specs.Causes.{AppendsPrefix, HasCause}
 use Rattle.pump_link.proofs.Known.{Appends-none, Appends-then}
 use Rattle.script_reader.specs.declared.event.Event.{Event}
 use Rattle.script_reader.specs.declared.event.EventHead.{EventHead}
@@ -36,17 +36,17 @@ appends_then first second a b c x y p q =
     let e : first ++ (x ++ y) ≡ p.0 ++ (second ++ y) = sym (append_assoc first x y) ∙ ap (λ z. z ++ y) p.2 ∙ append_assoc p.0 second y in
     rw e (Appends-then a b c p.0 (second ++ y) p.1 q)
 
--- or a front of it
-pub front_then : (first second : List ℕ) (a b c : Option (List ℕ)) (x y : List ℕ) → Gathers first second a b x → AppendsFront b c (second ++ y) → AppendsFront a c (first ++ (x ++ y))
-front_then first second a b c x y p q = (
+-- or a prefix of it
+pub prefix_then : (first second : List ℕ) (a b c : Option (List ℕ)) (x y : List ℕ) → Gathers first second a b x → AppendsPrefix b c (second ++ y) → AppendsPrefix a c (first ++ (x ++ y))
+prefix_then first second a b c x y p q = (
   p.0 ++ q.0,
   q.1,
   sym (append_assoc first x y) ∙ ap (λ z. z ++ y) p.2 ∙ append_assoc p.0 second y ∙ ap (λ z. p.0 ++ z) q.2 ∙ sym (append_assoc p.0 q.0 q.1),
   Appends-then a b c p.0 q.0 p.1 q.3,
 )
 
-pub front_more : (a b : Option (List ℕ)) (x y : List ℕ) → AppendsFront a b x → AppendsFront a b (x ++ y)
-front_more a b x y p = (p.0, p.1 ++ y, ap (λ z. z ++ y) p.2 ∙ append_assoc p.0 p.1 y, p.3)
+pub prefix_more : (a b : Option (List ℕ)) (x y : List ℕ) → AppendsPrefix a b x → AppendsPrefix a b (x ++ y)
+prefix_more a b x y p = (p.0, p.1 ++ y, ap (λ z. z ++ y) p.2 ∙ append_assoc p.0 p.1 y, p.3)
 
 -- the lines of these events
 abbrev text_of : List EventHead → List ℕ
@@ -64,26 +64,26 @@ one_more held mid later a b c heads i none low p q =
     ap text_of (take_more heads i none low) ∙ text_of-more (take i heads) (head ∷ []) ∙ ap (λ z. text_of (take i heads) ++ z) (text-one (event_of head)) in
     rw e (gathers_then held mid later a b c _ _ p q)
 
-pub cut_off_at : (held mid : List ℕ) (a b c : Option (List ℕ)) (heads : List EventHead) (i : ℕ) → Gathers held mid a b (text (lines_in (take i heads))) → AppendsFront b c mid → AppendsFront a c (held ++ text (lines_in heads))
+pub cut_off_at : (held mid : List ℕ) (a b c : Option (List ℕ)) (heads : List EventHead) (i : ℕ) → Gathers held mid a b (text (lines_in (take i heads))) → AppendsPrefix b c mid → AppendsPrefix a c (held ++ text (lines_in heads))
 cut_off_at held mid a b c heads i p q =
     let e : text_of heads ≡ text_of (take i heads) ++ text_of (drop i heads) = ap text_of (sym (take-append-drop i heads)) ∙ text_of-more (take i heads) (drop i heads) in
-    rw e (front_then held mid a b c (text_of (take i heads)) (text_of (drop i heads)) p (front_more b c mid (text_of (drop i heads)) q))
+    rw e (prefix_then held mid a b c (text_of (take i heads)) (text_of (drop i heads)) p (prefix_more b c mid (text_of (drop i heads)) q))
 
 pub on_err : {T E : Type 0} (r : Result T E) (P : Type 0) → P → OnErr r P
 on_err (Ok x) P p = tt
 on_err (Err x) P p = p
 
 -- what was held and x, where the last of it could not be written
-pub held_front : {T E : Type 0} (r : Result T E) (first second : List ℕ) (a b c : Option (List ℕ)) (x y : List ℕ) → x ≡ y → Gathers first second a b x → OnErr r (AppendsFront b c second) → OnErr r (AppendsFront a c (first ++ y))
-held_front (Ok t) first second a b c x y e p q = tt
-held_front (Err t) first second a b c x y e p q =
+pub held_prefix : {T E : Type 0} (r : Result T E) (first second : List ℕ) (a b c : Option (List ℕ)) (x y : List ℕ) → x ≡ y → Gathers first second a b x → OnErr r (AppendsPrefix b c second) → OnErr r (AppendsPrefix a c (first ++ y))
+held_prefix (Ok t) first second a b c x y e p q = tt
+held_prefix (Err t) first second a b c x y e p q =
     let all : first ++ y ≡ first ++ (x ++ []) = ap (λ z. first ++ z) (sym e ∙ sym (append-nil x)) in
-    rw all (front_then first second a b c x [] p (front_more b c second [] q))
+    rw all (prefix_then first second a b c x [] p (prefix_more b c second [] q))
 
 -- y came behind what was held, and all of it could not be written
-pub front_behind : {T E : Type 0} (r : Result T E) (first second later y : List ℕ) (a b c : Option (List ℕ)) → Gathers first second a b [] → later ≡ second ++ y → OnErr r (AppendsFront b c later) → OnErr r (AppendsFront a c (first ++ y))
-front_behind (Ok t) first second later y a b c p e q = tt
-front_behind (Err t) first second later y a b c p e q = front_then first second a b c [] y p (rw e at q)
+pub prefix_behind : {T E : Type 0} (r : Result T E) (first second later y : List ℕ) (a b c : Option (List ℕ)) → Gathers first second a b [] → later ≡ second ++ y → OnErr r (AppendsPrefix b c later) → OnErr r (AppendsPrefix a c (first ++ y))
+prefix_behind (Ok t) first second later y a b c p e q = tt
+prefix_behind (Err t) first second later y a b c p e q = prefix_then first second a b c [] y p (rw e at q)
 
 -- y came behind what was held
 pub gathers_behind : (first second later y : List ℕ) (a b : Option (List ℕ)) → Gathers first second a b [] → later ≡ second ++ y → Gathers first later a b y

@@ -8,8 +8,8 @@ use Rattle.script_reader.specs.Readouts.{Sound}
 use Rattle.script_reader.specs.Scripts.{Begun, Whole, Alone}
 use Rattle.script_reader.specs.Sessions.{Sessions, session_at, with_session, events_of, led_to}
 use Rattle.script_reader.proofs.Apart.{session_at-own, session_at-other}
-use Rattle.script_replay.specs.Shelves.{Places, IsKept, AreKept, AreOthersKept, AcknowledgedOutlive, ReceiverHasFront, shelved}
-use Rattle.script_replay.specs.Replays.{Replayed, IsTimed, IsNearLast, IsFinished, IsUnread, IsFaulted, IsOverfilled, IsBarred, IsBroken, IsDownAt, IsCutOff, Wrote, WroteFront, EndsBy, EndsCutOff, EndedWith, HaveOutlived, HaveReceived}
+use Rattle.script_replay.specs.Shelves.{Places, IsKept, AreKept, AreOthersKept, AcknowledgedOutlive, ReceiverHasPrefix, shelved}
+use Rattle.script_replay.specs.Replays.{Replayed, IsTimed, IsNearLast, IsFinished, IsUnread, IsFaulted, IsOverfilled, IsBarred, IsBroken, IsDownAt, IsCutOff, Wrote, WrotePrefix, EndsBy, EndsCutOff, EndedWith, HaveOutlived, HaveReceived}
 use Rattle.script_replay.proofs.Acknowledged.{HaveNoAck, breaks_no_ack, outlives_more, outlives_break}
 
 kept_outlives : (before after : Places) (number : ℕ) (o : Openings) (running : Option Begun) (printed : List Event) → IsKept before after number o running printed → AcknowledgedOutlive after running printed
@@ -17,17 +17,17 @@ kept_outlives before after number o (Some (Whole s)) printed k = (k.prefix.recei
 kept_outlives before after number o (Some (Alone s)) printed k = tt
 kept_outlives before after number o None printed k = tt
 
-kept_front : (before after : Places) (number : ℕ) (o : Openings) (running : Option Begun) (printed : List Event) → IsKept before after number o running printed → ReceiverHasFront after running
-kept_front before after number o (Some (Whole s)) printed k = (k.prefix.received, k.prefix.recv_is, k.prefix.front)
-kept_front before after number o (Some (Alone s)) printed k = tt
-kept_front before after number o None printed k = tt
+kept_prefix : (before after : Places) (number : ℕ) (o : Openings) (running : Option Begun) (printed : List Event) → IsKept before after number o running printed → ReceiverHasPrefix after running
+kept_prefix before after number o (Some (Whole s)) printed k = (k.prefix.received, k.prefix.recv_is, k.prefix.prefix)
+kept_prefix before after number o (Some (Alone s)) printed k = tt
+kept_prefix before after number o None printed k = tt
 
 -- of each session of these, whose disks are kept
 each_outlives : (before after : Places) (o : Openings) (t : Sessions) (printed : List Event) → AreKept before after o t.begun printed → HaveOutlived after t printed
 each_outlives before after o t printed kept = λ number. kept_outlives before after number o (session_at number t.begun) (events_of number printed) (kept number)
 
-each_front : (before after : Places) (o : Openings) (t : Sessions) (printed : List Event) → AreKept before after o t.begun printed → HaveReceived after t printed
-each_front before after o t printed kept = λ number. kept_front before after number o (session_at number t.begun) (events_of number printed) (kept number)
+each_prefix : (before after : Places) (o : Openings) (t : Sessions) (printed : List Event) → AreKept before after o t.begun printed → HaveReceived after t printed
+each_prefix before after o t printed kept = λ number. kept_prefix before after number o (session_at number t.begun) (events_of number printed) (kept number)
 
 -- where one of them is not begun, of all others
 others_outlive : (before after : Places) (o : Openings) (one : ℕ) (t : Sessions) (printed : List Event) → session_at one t.begun ≡ None → AreOthersKept before after one o t.begun printed → HaveOutlived after t printed
@@ -37,26 +37,26 @@ others_outlive before after o one t printed none others = λ number.
       | false ↦ λ e. kept_outlives before after number o (session_at number t.begun) (events_of number printed) (others number (eqb-false number one e))
     ] refl
 
-others_front : (before after : Places) (o : Openings) (one : ℕ) (t : Sessions) (printed : List Event) → session_at one t.begun ≡ None → AreOthersKept before after one o t.begun printed → HaveReceived after t printed
-others_front before after o one t printed none others = λ number.
-    elim (number == one) as (λ b. (number == one) ≡ b → ReceiverHasFront after (session_at number t.begun)) [
-      | true ↦ λ e. subst (λ (x : Option Begun). ReceiverHasFront after x) (sym (ap (λ (n : ℕ). session_at n t.begun) (eqb-true number one e) ∙ none)) tt
-      | false ↦ λ e. kept_front before after number o (session_at number t.begun) (events_of number printed) (others number (eqb-false number one e))
+others_prefix : (before after : Places) (o : Openings) (one : ℕ) (t : Sessions) (printed : List Event) → session_at one t.begun ≡ None → AreOthersKept before after one o t.begun printed → HaveReceived after t printed
+others_prefix before after o one t printed none others = λ number.
+    elim (number == one) as (λ b. (number == one) ≡ b → ReceiverHasPrefix after (session_at number t.begun)) [
+      | true ↦ λ e. subst (λ (x : Option Begun). ReceiverHasPrefix after x) (sym (ap (λ (n : ℕ). session_at n t.begun) (eqb-true number one e) ∙ none)) tt
+      | false ↦ λ e. kept_prefix before after number o (session_at number t.begun) (events_of number printed) (others number (eqb-false number one e))
     ] refl
 
 -- where a line of one was cut short by the device of a disk, of all
-broken_front : (before after : Places) (all left : Option (List ℕ)) (session : ℕ) (role : Role) (r : Replayed all) (output : List ℕ) (end : IsBroken (shelved before after) left session role r output)
+broken_prefix : (before after : Places) (all left : Option (List ℕ)) (session : ℕ) (role : Role) (r : Replayed all) (output : List ℕ) (end : IsBroken (shelved before after) left session role r output)
     → HaveReceived after (led_to r.sessions end.next.line (Whole (record { row = end.next.off.session.row; past = end.next.off.past }))) (r.events ++ end.next.printed)
-broken_front before after all left session role r output end =
+broken_prefix before after all left session role r output end =
     let one = end.next.off.session.row.id in
     let last : Begun = Whole (record { row = end.next.off.session.row; past = end.next.off.past }) in
     let kept = end.disks.0.prefix in
-    λ number. elim (number == one) as (λ b. (number == one) ≡ b → ReceiverHasFront after (session_at number (with_session last r.sessions.begun))) [
-      | true ↦ λ e. subst (λ (x : Option Begun). ReceiverHasFront after x) (sym (session_at-own number last r.sessions.begun (sym (eqb-true number one e)))) (kept.received, kept.recv_is, kept.front)
+    λ number. elim (number == one) as (λ b. (number == one) ≡ b → ReceiverHasPrefix after (session_at number (with_session last r.sessions.begun))) [
+      | true ↦ λ e. subst (λ (x : Option Begun). ReceiverHasPrefix after x) (sym (session_at-own number last r.sessions.begun (sym (eqb-true number one e)))) (kept.received, kept.recv_is, kept.prefix)
       | false ↦ λ e.
           let apart = eqb-false number one e in
-          subst (λ (x : Option Begun). ReceiverHasFront after x) (sym (session_at-other number last r.sessions.begun (λ is. apart (sym is))))
-          (kept_front before after number r.openings (session_at number r.sessions.begun) (events_of number r.events) (end.disks.1 number apart))
+          subst (λ (x : Option Begun). ReceiverHasPrefix after x) (sym (session_at-other number last r.sessions.begun (λ is. apart (sym is))))
+          (kept_prefix before after number r.openings (session_at number r.sessions.begun) (events_of number r.events) (end.disks.1 number apart))
     ] refl
 
 broken_outlives : (before after : Places) (all left : Option (List ℕ)) (session : ℕ) (role : Role) (r : Replayed all) (output : List ℕ) (end : IsBroken (shelved before after) left session role r output)
@@ -92,8 +92,8 @@ pub record HoldsAtEnds (before after : Places) (Holds : Sessions → List Event 
 pub outlives : (before after : Places) → HoldsAtEnds before after (HaveOutlived after)
 outlives before after = record { kept = each_outlives before after; others = others_outlive before after; broken = broken_outlives before after }
 
-pub fronts : (before after : Places) → HoldsAtEnds before after (HaveReceived after)
-fronts before after = record { kept = each_front before after; others = others_front before after; broken = broken_front before after }
+pub prefixes : (before after : Places) → HoldsAtEnds before after (HaveReceived after)
+prefixes before after = record { kept = each_prefix before after; others = others_prefix before after; broken = broken_prefix before after }
 
 module _ (before after : Places) (all left : Option (List ℕ)) (was now : ℕ) (Holds : Sessions → List Event → Type 0) (h : HoldsAtEnds before after Holds) where
   -- the sessions to which it came, and what it printed
@@ -167,8 +167,8 @@ module _ (before after : Places) (all left : Option (List ℕ)) (was now : ℕ) 
     pub wrote_unread : Wrote all old new (IsUnread (shelved before after) left was now) → Ended 3
     wrote_unread = written 3 (IsUnread (shelved before after) left was now) unread
 
-    pub wrote_front : WroteFront all old new (IsCutOff (shelved before after) left was now) → Ended 4
-    wrote_front (r, output, end, front) = let (t, printed, by, holds) = cut_off r output end in (r, output, t, printed, holds, inr (refl, by, front))
+    pub wrote_prefix : WrotePrefix all old new (IsCutOff (shelved before after) left was now) → Ended 4
+    wrote_prefix (r, output, end, prefix) = let (t, printed, by, holds) = cut_off r output end in (r, output, t, printed, holds, inr (refl, by, prefix))
 
     pub wrote_faulted : Wrote all old new (IsFaulted (shelved before after) left) → Ended 5
     wrote_faulted = written 5 (IsFaulted (shelved before after) left) faulted

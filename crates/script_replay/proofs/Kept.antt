@@ -26,9 +26,9 @@ pub each_sound : (o : Openings) (lines : List Line) (t : Sessions) (printed : Li
 each_sound o lines t printed comes number = sound_so o (lines_of number lines) (session_at number t.begun) (events_of number printed) (own_so_far o lines t printed comes number)
 
 -- the lines before another are among those before the last one
-front_of : (before : List Line) (x : Line) (later lines : List Line) (line : Line) → before ++ x ∷ later ≡ lines ++ line ∷ [] → (more : List Line) × (lines ≡ before ++ more)
-front_of [] x later lines line e = (lines, refl)
-front_of (y ∷ before) x later [] line e = absurd (nothing_behind before x later (tail_is e))
+prefix_of : (before : List Line) (x : Line) (later lines : List Line) (line : Line) → before ++ x ∷ later ≡ lines ++ line ∷ [] → (more : List Line) × (lines ≡ before ++ more)
+prefix_of [] x later lines line e = (lines, refl)
+prefix_of (y ∷ before) x later [] line e = absurd (nothing_behind before x later (tail_is e))
   where
     tail_is : {a b : Line} {xs ys : List Line} → a ∷ xs ≡ b ∷ ys → xs ≡ ys
     tail_is e = cc
@@ -36,22 +36,22 @@ front_of (y ∷ before) x later [] line e = absurd (nothing_behind before x late
     nothing_behind : (xs : List Line) (x : Line) (ys : List Line) → xs ++ x ∷ ys ≡ [] → ⊥
     nothing_behind [] x ys e = absurd (cc)
     nothing_behind (a ∷ xs) x ys e = absurd (cc)
-front_of (y ∷ before) x later (z ∷ lines) line e =
-    let r = front_of before x later lines line cc in
+prefix_of (y ∷ before) x later (z ∷ lines) line e =
+    let r = prefix_of before x later lines line cc in
     let same : y ≡ z = cc in
     (r.0, (λ i. sym same i ∷ r.1 i))
 
-fronts_so : (o : Openings) (before : List Line) (x : Line) (later : List Line) (t : Sessions) (printed : List Event) → ScriptComesTo o (before ++ x ∷ later) t printed
+prefixes_so : (o : Openings) (before : List Line) (x : Line) (later : List Line) (t : Sessions) (printed : List Event) → ScriptComesTo o (before ++ x ∷ later) t printed
     → (mid : Sessions) × (first : List Event) × (second : List Event) × ScriptLeadsTo o no_sessions before mid first × (printed ≡ first ++ second)
-fronts_so o before x later t printed (inl l) = let r = script_parts o no_sessions before (x ∷ later) t printed l in (r.0, r.1, r.2, r.3, r.5)
-fronts_so o before x later t printed (inr s) =
-    let f = front_of before x later s.before s.line s.script_is in
+prefixes_so o before x later t printed (inl l) = let r = script_parts o no_sessions before (x ∷ later) t printed l in (r.0, r.1, r.2, r.3, r.5)
+prefixes_so o before x later t printed (inr s) =
+    let f = prefix_of before x later s.before s.line s.script_is in
     let r = script_parts o no_sessions before f.0 s.sessions s.first (subst (λ (ls : List Line). ScriptLeadsTo o no_sessions ls s.sessions s.first) f.1 s.leads) in
     (r.0, r.1, r.2 ++ s.last, r.3, s.printed_is ∙ ap (λ xs. xs ++ s.last) r.5 ∙ append_assoc r.1 r.2 s.last)
 
 are_sound : (o : Openings) (lines : List Line) (t : Sessions) (printed : List Event) → ScriptComesTo o lines t printed → AreSound o lines printed
 are_sound o lines t printed comes = λ before line later is.
-    let f = fronts_so o before line later t printed (subst (λ (ls : List Line). ScriptComesTo o ls t printed) is comes) in
+    let f = prefixes_so o before line later t printed (subst (λ (ls : List Line). ScriptComesTo o ls t printed) is comes) in
     (f.0, f.1, f.2, f.3, f.4, each_sound o before f.0 f.1 (inl f.3))
 
 pub keep_laws : (o : Openings) (lines : List Line) (t : Sessions) (printed : List Event) → ScriptComesTo o lines t printed → KeepLaws o lines t printed

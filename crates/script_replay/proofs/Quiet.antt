@@ -9,15 +9,15 @@ use Rattle.script_replay.specs.declared.outcome.Outcome.TheVariants as outcomes
 use Rattle.script_replay.specs.Outputs.{Gathers}
 use Rattle.script_replay.specs.Runners.{TurnIsQuiet}
 
-no_front : (xs ys : List ℕ) → [] ≡ xs ++ ys → (xs ≡ []) × (ys ≡ [])
-no_front [] ys e = (refl, sym e)
-no_front (x ∷ xs) ys e = cc
+no_prefix : (xs ys : List ℕ) → [] ≡ xs ++ ys → (xs ≡ []) × (ys ≡ [])
+no_prefix [] ys e = (refl, sym e)
+no_prefix (x ∷ xs) ys e = cc
 
 -- what is held is handed on
 pub quiet_shown : (held later : List ℕ) (a b c : Option (List ℕ)) → held ≡ [] → Appends a b [] → Gathers held later b c [] → (later ≡ []) × Appends a c []
 quiet_shown held later a b c none first (written, second, e) =
     let nothing : [] ≡ written ++ later = sym (ap (λ (l : List ℕ). l ++ []) none) ∙ e in
-    let both = no_front written later nothing in
+    let both = no_prefix written later nothing in
     (both.1, subst (λ (l : List ℕ). Appends a c l) both.0 (Appends-then a b c [] written first second))
 
 pub by_way : (was is : Bool) → (was ≡ true → is ≡ true) → is ≡ false → was ≡ false

@@ -2,7 +2,7 @@
 use Rattle.std.proofs.Common.{◌≡◌, ℕ, ◌+◌, ◌-◌, ◌^◌, ◌<◌, ◌≤◌, inl, inr, min, List, [], ◌∷◌, ◌++◌, Option, None, Some, length, refl, sym, ap, ◌∙◌, subst, append_assoc, append-nil, arith, length-append}
 use Rattle.std.specs.Io.KnownBytes.{prepend_known, Consumes, Keeps, Appends, IsAtEnd}
 use Rattle.pump_frame.specs.Counts.{Rose}
-use Rattle.pump_link.specs.Causes.{AppendsFront}
+use Rattle.pump_link.specs.Causes.{AppendsPrefix}
 use Rattle.script_reader.specs.declared.line.Line.{Line}
 use Rattle.script_reader.specs.declared.event.Event.{Event}
 use Rattle.script_reader.specs.declared.fault.Fault.{Fault}
@@ -20,10 +20,10 @@ use Rattle.script_replay.specs.Outputs.{Gathers}
 use Rattle.script_replay.specs.Runners.{Closes, EndsAs}
 use Rattle.script_replay.specs.declared.ended.Ended.{Ended}
 use Rattle.script_replay.specs.declared.ended.Ended.TheVariants as ended
-use Rattle.script_replay.specs.Replays.{IsSoFar, Replayed, IsFaultyAt, fault_after, IsNear, IsWithinLine, IsNearLast, IsFinished, IsUnread, IsFaulted, IsOutput, IsCutOff, Wrote, WroteFront}
+use Rattle.script_replay.specs.Replays.{IsSoFar, Replayed, IsFaultyAt, fault_after, IsNear, IsWithinLine, IsNearLast, IsFinished, IsUnread, IsFaulted, IsOutput, IsCutOff, Wrote, WrotePrefix}
 use Rattle.script_replay.specs.Shelves.{Shelved}
 use Rattle.script_replay.proofs.Kept.{keep_laws, timed_so, sound_ends}
-use Rattle.script_replay.proofs.Gathered.{text-more, gathers_then, appends_then, front_then, front_more}
+use Rattle.script_replay.proofs.Gathered.{text-more, gathers_then, appends_then, prefix_then, prefix_more}
 
 -- ---- the lines ----
 
@@ -100,8 +100,8 @@ module _ (shelf : Shelved) (o : Openings) (all rest left old now new : Option (L
   pub wrote : (End : Replayed all → List ℕ → Type 0) (x : List ℕ) → End r (text events ++ x) → Appends now new (held ++ x) → Wrote all old new End
   wrote End x e a = (r, text events ++ x, e, appends_then [] held old now new (text events) x w a)
 
-  pub wrote_front : (x : List ℕ) → IsNearLast rest left → IsOutput shelf left before after r (text events ++ x) → AppendsFront now new (held ++ x) → WroteFront all old new (IsCutOff shelf left before after)
-  wrote_front x near e a = (r, text events ++ x, (near, e), front_then [] held old now new (text events) x w a)
+  pub wrote_prefix : (x : List ℕ) → IsNearLast rest left → IsOutput shelf left before after r (text events ++ x) → AppendsPrefix now new (held ++ x) → WrotePrefix all old new (IsCutOff shelf left before after)
+  wrote_prefix x near e a = (r, text events ++ x, (near, e), prefix_then [] held old now new (text events) x w a)
 
   done : (last : List Event) → IsAtEnd rest → AllEnd running.begun last → shelf.keeps o running.begun (events ++ last) → IsFinished shelf r (text events ++ text last)
   done last e ends disks = record {
@@ -122,8 +122,8 @@ module _ (shelf : Shelved) (o : Openings) (all rest left old now new : Option (L
     unread within rose = record { rose = rose; taken = within; output_is = refl; disks = disks }
 
     -- what is held could not be handed on
-    pub unshown : IsNear rest left → AppendsFront now new held → WroteFront all old new (IsCutOff shelf left before after)
-    unshown near a = wrote_front [] (inr (inl near)) (inl (append-nil (text events), disks)) (front_more now new held [] a)
+    pub unshown : IsNear rest left → AppendsPrefix now new held → WrotePrefix all old new (IsCutOff shelf left before after)
+    unshown near a = wrote_prefix [] (inr (inl near)) (inl (append-nil (text events), disks)) (prefix_more now new held [] a)
 
     -- what is written last was written or not
     pub refused : (result : Ended) (number rose risen : ℕ) → IsNear rest left → IsFaultyAt (length lines) rest running → Script number ≡ fault_after (length lines)
@@ -131,7 +131,7 @@ module _ (shelf : Shelved) (o : Openings) (all rest left old now new : Option (L
     refused result number rose risen near f e c =
         elim c [
           | inl is ↦ rw is.0 (wrote (λ r output. IsFaulted shelf left r output) (fault_line (Script number)) (faulted number near f e) is.1)
-          | inr is ↦ rw is.0 (wrote_front (fault_line (Script number)) (inr (inl near)) (inr (inr (inl (faulted number near f e)))) is.1)
+          | inr is ↦ rw is.0 (wrote_prefix (fault_line (Script number)) (inr (inl near)) (inr (inr (inl (faulted number near f e)))) is.1)
         ]
 
     pub failed : (result : Ended) (rose risen : ℕ) → IsWithinLine rest left → Rose before after
@@ -139,7 +139,7 @@ module _ (shelf : Shelved) (o : Openings) (all rest left old now new : Option (L
     failed result rose risen within because c =
         elim c [
           | inl is ↦ rw is.0 (wrote (λ r output. IsUnread shelf left before after r output) (fault_line Read) (unread within because) is.1)
-          | inr is ↦ rw is.0 (wrote_front (fault_line Read) (inr (inl (within.0, within.1, within.2))) (inr (inr (inr (inl (unread within because))))) is.1)
+          | inr is ↦ rw is.0 (wrote_prefix (fault_line Read) (inr (inl (within.0, within.1, within.2))) (inr (inr (inr (inl (unread within because))))) is.1)
         ]
 
   pub finished : (result : Ended) (rose risen : ℕ) (last : List Event) → IsAtEnd rest → AllEnd running.begun last → shelf.keeps o running.begun (events ++ last)
@@ -147,21 +147,21 @@ module _ (shelf : Shelved) (o : Openings) (all rest left old now new : Option (L
   finished result rose risen last e ends disks c =
       elim c [
         | inl is ↦ rw is.0 (wrote (λ r output. IsFinished shelf r output) (text last) (done last e ends disks) is.1)
-        | inr is ↦ rw is.0 (wrote_front (text last) (inl e) (inr (inl (done last e ends disks))) is.1)
+        | inr is ↦ rw is.0 (wrote_prefix (text last) (inl e) (inr (inl (done last e ends disks))) is.1)
       ]
 
 -- what a line prints could not be handed on
 pub unprinted : (shelf : Shelved) (o : Openings) (all mid rest left old now new : Option (List ℕ)) (before after : ℕ) (lines : List Line) (events more : List Event) (running next : Sessions) (line : Line) (bytes held : List ℕ)
     → IsSoFar o all mid lines events running → length lines + 1 < 2 ^ 32 → IsUnended bytes → IsLine line bytes → Consumes mid rest (bytes ++ 10 ∷ []) → ScriptLeads o running line next more
     → shelf.keeps o next.begun (events ++ more)
-    → IsNear mid left → Gathers [] held old now (text events) → AppendsFront now new (held ++ text more) → WroteFront all old new (IsCutOff shelf left before after)
+    → IsNear mid left → Gathers [] held old now (text events) → AppendsPrefix now new (held ++ text more) → WrotePrefix all old new (IsCutOff shelf left before after)
 unprinted shelf o all mid rest left old now new before after lines events more running next line bytes held s few u i c step disks near w a =
     let so_far = so_far_more o all mid rest lines events more running next line bytes s u i c step in
     let counted : length (lines ++ line ∷ []) < 2 ^ 32 = omega (arith, few, length-append lines (line ∷ [])) in (
       replayed o all rest (lines ++ line ∷ []) (events ++ more) next so_far counted,
       text events ++ text more,
       (inr (inr (line, mid, (bytes, rest, u, i, c, Keeps-same rest), near)), inl (sym (text-more events more), disks)),
-      front_then [] held old now new (text events) (text more) w a,
+      prefix_then [] held old now new (text events) (text more) w a,
     )
 
 -- ---- the line after ----

@@ -4,7 +4,7 @@ use Rattle.std.proofs.lemmas.Bool.{eqb-true, eqb-false}
 use Rattle.disk_model.specs.Disk.{Meaning}
 use Rattle.disk_model.specs.Shelf.{Holdings}
 use Rattle.disk_model.specs.declared.disk.Disk.{Ghosts}
-use Rattle.pump_link.specs.Causes.{AppendsFront}
+use Rattle.pump_link.specs.Causes.{AppendsPrefix}
 use Rattle.disk_model.specs.declared.name.Role.{Role}
 use Rattle.disk_model.specs.declared.name.Role.TheVariants as roles
 use Rattle.recovery.specs.Faults.{why_number, why_values}
@@ -36,12 +36,12 @@ use Rattle.script_replay.specs.declared.outcome.Outcome.{Outcome}
 use Rattle.script_replay.specs.declared.outcome.Outcome.TheVariants as outcomes
 use Rattle.script_replay.specs.declared.ended.Ended.{Ended}
 use Rattle.script_replay.specs.declared.ended.Ended.TheVariants as ended
-use Rattle.script_replay.proofs.Gathered.{appends_then, front_then, front_more}
+use Rattle.script_replay.proofs.Gathered.{appends_then, prefix_then, prefix_more}
 use Rattle.script_replay.proofs.Kept.{each_sound, laws_at_stop}
 use Rattle.script_replay.proofs.Numbered.{stands_at}
-use Rattle.script_replay.proofs.SoFar.{replayed, next_line, near_next, shown, wrote, wrote_front, unshown, unprinted, stopped_text}
+use Rattle.script_replay.proofs.SoFar.{replayed, next_line, near_next, shown, wrote, wrote_prefix, unshown, unprinted, stopped_text}
 use Rattle.script_replay.proofs.Widened.{advance, led_there, led_beside}
-use Rattle.script_replay.specs.Replays.{Replayed, IsSoFar, Stopping, BreaksLine, Beginning, IsNear, IsStopped, IsOverfilled, IsBroken, IsBarred, IsDownAt, IsOutput, IsCutOff, Wrote, WroteFront, lost_in}
+use Rattle.script_replay.specs.Replays.{Replayed, IsSoFar, Stopping, BreaksLine, Beginning, IsNear, IsStopped, IsOverfilled, IsBroken, IsBarred, IsDownAt, IsOutput, IsCutOff, Wrote, WrotePrefix, lost_in}
 
 -- ---- the disks ----
 
@@ -137,10 +137,10 @@ pub barred : (old now mid : Option (List ℕ)) (held later : List ℕ) (events p
     → Gathers [] later old mid (text events)
 barred old now mid held later events printed w e more = shown held later old now mid (text events) w (silent_gathers held later now mid printed e more)
 
-silent_front : (held : List ℕ) (a b : Option (List ℕ)) (printed : List Event) → printed ≡ [] → AppendsFront a b (held ++ text printed) → AppendsFront a b held
-silent_front held a b printed e p =
+silent_prefix : (held : List ℕ) (a b : Option (List ℕ)) (printed : List Event) → printed ≡ [] → AppendsPrefix a b (held ++ text printed) → AppendsPrefix a b held
+silent_prefix held a b printed e p =
     let is : held ++ text printed ≡ held = ap (λ (x : List Event). held ++ text x) e ∙ append-nil held in
-    subst (λ (x : List ℕ). AppendsFront a b x) is p
+    subst (λ (x : List ℕ). AppendsPrefix a b x) is p
 
 -- where a session that has begun stops, its disks were found to hold the same
 finds_stop : (before : Places) (o : Openings) (running : Option Begun) (line : Line) (end : Option Begun) (printed : List Event) (fault : Fault) → Stops running line end printed fault → Finds before o running → Finds before o end
@@ -250,25 +250,25 @@ module _ {D : Type 0} (g : Ghosts D) (d : Meaning D) (bef mid : Places) (begun :
         | inl is ↦ rw is.0 (end_wrote shelf all rest old new before after fault
             (wrote shelf o all (to_come from left) rest old now new before after lines events t s counted held w (λ r output. EndOf shelf rest fault r output) (text printed ++ fault_line fault) (end_of printed fault h)
             (appends_then held later now mid_out new (text printed) (fault_line fault) more is.1)))
-        | inr is ↦ rw is.0 (wrote_front shelf o all (to_come from left) rest old now new before after lines events t s counted held w (text printed ++ fault_line fault) (inr (inl near))
+        | inr is ↦ rw is.0 (wrote_prefix shelf o all (to_come from left) rest old now new before after lines events t s counted held w (text printed ++ fault_line fault) (inr (inl near))
             (end_output shelf all rest before after fault before_it (output_of printed fault) (end_of printed fault h))
-            (front_then held later now mid_out new (text printed) (fault_line fault) more is.1))
+            (prefix_then held later now mid_out new (text printed) (fault_line fault) more is.1))
       ]
 
   -- what it prints could not be written
-  pub cut_off : (new : Option (List ℕ)) (printed : List Event) (outcome : Outcome) → TurnGoes d bef mid t line begun printed outcome → AppendsFront now new (held ++ text printed) → WroteFront all old new (IsCutOff shelf rest before after)
+  pub cut_off : (new : Option (List ℕ)) (printed : List Event) (outcome : Outcome) → TurnGoes d bef mid t line begun printed outcome → AppendsPrefix now new (held ++ text printed) → WrotePrefix all old new (IsCutOff shelf rest before after)
   cut_off new printed outcomes.Applied (u, leads, stand, lends) p =
       let a = advance bef o all (to_come from left) lines events t line u printed s found leads in
       unprinted shelf a.openings all (to_come from left) (to_come to rest) rest old now new before after lines events printed t u line n.0 held a.so_far few n.1 n.2 n.3 a.leads
       (keeps_so d bef mid begun a.openings u (events ++ printed) lends a.found stand) near w p
   cut_off new printed outcomes.Refused (refuses, silent, stand, lends) p =
-      unshown shelf o all (to_come from left) rest old now new before after lines events t s counted held w (keeps_so d bef mid begun o t events lends found stand) near (silent_front held now new printed silent p)
+      unshown shelf o all (to_come from left) rest old now new before after lines events t s counted held w (keeps_so d bef mid begun o t events lends found stand) near (silent_prefix held now new printed silent p)
   cut_off new printed outcomes.Memory h p = absurd h
   cut_off new printed outcomes.Unwritten h p = absurd h
   cut_off new printed (outcomes.Stopped fault) h p =
-      wrote_front shelf o all (to_come from left) rest old now new before after lines events t s counted held w (text printed ++ fault_line fault) (inr (inl near))
+      wrote_prefix shelf o all (to_come from left) rest old now new before after lines events t s counted held w (text printed ++ fault_line fault) (inr (inl near))
       (end_output shelf all rest before after fault before_it (output_of printed fault) (end_of printed fault h))
-      (rw (← append_assoc held (text printed) (fault_line fault)) (front_more now new (held ++ text printed) (fault_line fault) p))
+      (rw (← append_assoc held (text printed) (fault_line fault)) (prefix_more now new (held ++ text printed) (fault_line fault) p))
 
 -- ---- the cause of a failed device ----
 

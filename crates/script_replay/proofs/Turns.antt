@@ -11,7 +11,7 @@ use Rattle.disk_model.specs.declared.name.Role.{Role}
 use Rattle.disk_model.specs.declared.name.Role.TheVariants as roles
 use Rattle.pump_frame.specs.Rows.{IsLawfulRow}
 use Rattle.pump_frame.specs.declared.row.SessionRow.{SessionRow}
-use Rattle.pump_link.specs.Causes.{AppendsFront}
+use Rattle.pump_link.specs.Causes.{AppendsPrefix}
 use Rattle.script_reader.specs.declared.event.Event.{Event}
 use Rattle.script_reader.specs.declared.fault.Fault.{Fault}
 use Rattle.script_reader.specs.declared.fault.Fault.TheVariants as faults
@@ -59,7 +59,7 @@ gone_on d t s line printed stop held later old new outcome id h w same is =
 
 -- it could not be written
 pub not_written : {D : Type 0} {g : Ghosts D} (d : Meaning D) (t : Session D g) (s : Begun) (line : Line) (printed : List Event) (stop : Option Stop) (held : List ℕ) (later : List ℕ) (old new : Option (List ℕ))
-    → SessionApplies d s line t printed stop → AppendsFront old new (held ++ text printed) → GoesSo d s line t held later old new outcomes.Unwritten
+    → SessionApplies d s line t printed stop → AppendsPrefix old new (held ++ text printed) → GoesSo d s line t held later old new outcomes.Unwritten
 not_written d t s line printed stop held later old new h p = (printed, stop, h, inr (refl, p))
 
 -- it is up unless it stops

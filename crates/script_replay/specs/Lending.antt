@@ -19,7 +19,8 @@ IsOutAt places session role count = (given : ℕ) × (places (disk_name session 
 
 -- where its count rose since it was given, the shelf's count rises when it comes back
 abbrev pub RisesAt : Places → ℕ → Role → ℕ → ℕ → ℕ → Type 0
-RisesAt places session role count before now = (given : ℕ) → places (disk_name session role) ≡ Out given → Rose given count → Rose before now
+RisesAt places session role count before now = (given : ℕ) → places (disk_name session role) ≡ Out given
+    → Rose given count → Rose before now
 
 -- the three disks of a session are on the shelf, and read this
 pub record AreOnShelf (places : Places) (session : ℕ) (low high recv : List ℕ) : Type 0 where
@@ -30,4 +31,5 @@ pub record AreOnShelf (places : Places) (session : ℕ) (low high recv : List �
 -- every disk that was not empty reads as it did, and one that was is so still, or is a new disk of the row
 abbrev pub Readies : Places → Places → SessionRow → Type 0
 Readies before after row = (name : DiskName) → (reading_in (after name) ≡ reading_in (before name))
-    ⊎ ((name.session ≡ row.id) × (reading_in (before name) ≡ []) × (reading_in (after name) ≡ new_bytes row name.role 0))
+    ⊎ ((name.session ≡ row.id) × (reading_in (before name) ≡ [])
+    × (reading_in (after name) ≡ new_bytes row name.role 0))

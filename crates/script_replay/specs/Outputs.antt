@@ -7,6 +7,6 @@ use Rattle.script_replay.specs.declared.output.Output.{Output}
 abbrev pub held_of : Output → List ℕ
 held_of output = output.held.items
 
--- these bytes were added to what was held, and a front of it all was written
+-- these bytes were added to what was held, and a prefix of it all was written
 abbrev pub Gathers : List ℕ → List ℕ → Option (List ℕ) → Option (List ℕ) → List ℕ → Type 0
 Gathers held later old new bytes = (written : List ℕ) × Appends old new written × (held ++ bytes ≡ written ++ later)

@@ -1,5 +1,6 @@
 -- What the sessions of the code stand for, and what a line of a script does to one of them. `d` is what its disks tell.
-use Rattle.std.specs.Prelude.{◌≡◌, ◌<◌, ◌≤◌, ℕ, Bool, true, false, ◌==◌, nat_lt, nat_le, if◌then◌else◌, List, [], ◌∷◌, length, find, slice_get, Option, Some, None, vec_capacity}
+use Rattle.std.specs.Prelude.{◌≡◌, ◌<◌, ◌≤◌, ℕ, Bool, true, false, ◌==◌, nat_lt, nat_le, if◌then◌else◌, List, [], ◌∷◌}
+use Rattle.std.specs.Prelude.{length, find, slice_get, Option, Some, None, vec_capacity}
 use Rattle.std.specs.List.{AllByRecursion, position_or_len}
 use Rattle.disk_model.specs.Disk.{Meaning}
 use Rattle.disk_model.specs.declared.name.Role.{Role}
@@ -52,7 +53,8 @@ IsAlone (sessions.Alone id p) = Unit {0}
 -- it was opened for the row, and stands for what the session has been through
 abbrev pub IsOf : {D : Type 0} {g : _} → Meaning D → Session D g → Begun → Type 0
 IsOf d (sessions.Whole id p) (Whole s) = (id ≡ s.row.id) × (pump.row_of p ≡ s.row) × pump.StandsFor d p s.past
-IsOf d (sessions.Alone id p) (Alone s) = (id ≡ s.row.id) × (low_pump.low_row_of p ≡ s.row) × low_pump.LowStandsFor p s.past
+IsOf d (sessions.Alone id p) (Alone s) = (id ≡ s.row.id) × (low_pump.low_row_of p ≡ s.row)
+    × low_pump.LowStandsFor p s.past
 IsOf d (sessions.Whole id p) (Alone s) = ⊥
 IsOf d (sessions.Alone id p) (Whole s) = ⊥
 
@@ -88,20 +90,24 @@ HasComeTo d (Some session) None = ⊥
 abbrev pub IsCutShort : {D : Type 0} {g : _} → Meaning D → Begun → Line → Session D g → List Event → Role → Type 0
 IsCutShort d (Whole s) line t printed role =
     (is_timely s.row s.past line ≡ true)
-    × ((q : Past) × Breaks s.row s.past line role q printed × (id_of t ≡ s.row.id) × CameTo d t (Whole (record { row = s.row; past = q })))
+    × ((q : Past) × Breaks s.row s.past line role q printed × (id_of t ≡ s.row.id)
+    × CameTo d t (Whole (record { row = s.row; past = q })))
 IsCutShort d (Alone s) line t printed role =
-    (after : Option Begun) × Stops (Some (Alone s)) line after printed (faults.Device (id_of t) role) × HasComeTo d (Some t) after
+    (after : Option Begun) × Stops (Some (Alone s)) line after printed (faults.Device (id_of t) role)
+    × HasComeTo d (Some t) after
 
--- a line was given to the running session and left it as t: it can be applied, and leads to what t stands for and prints
--- this; or it can't be, and prints nothing; or it stops the script after it printed this
-abbrev pub SessionApplies : {D : Type 0} {g : _} → Meaning D → Begun → Line → Session D g → List Event → Option Stop → Type 0
+-- a line was given to the running session and left it as t: it can be applied, and leads to what t stands for and
+-- prints this; or it can't be, and prints nothing; or it stops the script after it printed this
+abbrev pub SessionApplies : {D : Type 0} {g : _} → Meaning D → Begun → Line → Session D g → List Event → Option Stop
+    → Type 0
 SessionApplies d running line t printed None =
     (after : Option Begun) × GoesOn running line after printed × StandsForRunning d (Some t) after
 SessionApplies d running line t printed (Some stops.Line) =
     IsRefused (Some running) line × (printed ≡ []) × StandsFor d t running
 SessionApplies d running line t printed (Some (stops.Device role count)) = IsCutShort d running line t printed role
 SessionApplies d running line t printed (Some (stops.Full end length size)) =
-    (after : Option Begun) × Stops (Some running) line after printed (faults.Full (id_of t) end length size) × HasComeTo d (Some t) after
+    (after : Option Begun) × Stops (Some running) line after printed (faults.Full (id_of t) end length size)
+    × HasComeTo d (Some t) after
 SessionApplies d running line t printed (Some (stops.Disk role why)) = ⊥
 
 -- ---- its disks ----
@@ -118,7 +124,8 @@ LendsNew d before now (sessions.Alone id p) = now ≡ before
 
 -- the disks of a session are with it; those of a number that has no session with disks are where they were
 abbrev pub Lends : {D : Type 0} {g : _} → Meaning D → Places → Places → ℕ → Option (Session D g) → Type 0
-Lends d before now number (Some (sessions.Whole id p)) = (role : Role) → IsOutAt now id role (d.count (pump.disk_at role p))
+Lends d before now number (Some (sessions.Whole id p)) = (role : Role)
+    → IsOutAt now id role (d.count (pump.disk_at role p))
 Lends d before now number (Some (sessions.Alone id p)) = LeavesSession before now number
 Lends d before now number None = LeavesSession before now number
 
@@ -132,7 +139,8 @@ GoesOnWith d (sessions.Alone id p) (sessions.Whole other q) = ⊥
 
 -- a disk of this role failed, if the session has disks
 abbrev pub FailedWith : {D : Type 0} {g : _} → Meaning D → Session D g → Session D g → Role → Type 0
-FailedWith d (sessions.Whole id p) (sessions.Whole other q) role = Rose (d.count (pump.disk_at role p)) (d.count (pump.disk_at role q))
+FailedWith d (sessions.Whole id p) (sessions.Whole other q) role = Rose (d.count (pump.disk_at role p))
+    (d.count (pump.disk_at role q))
 FailedWith d s t role = Unit {0}
 
 -- its disk of this role has failed since it was given, if it has any
@@ -166,7 +174,8 @@ is_of_number number (Some s) = id_of s == number
 
 -- this is the number's place, and its session is there or not
 abbrev pub IsPlaced : {D : Type 0} {g : _} → ℕ → ℕ → List (Session D g) → Bool → Type 0
-IsPlaced number place begun is_there = (place ≡ place_in number begun) × (is_of_number number (slice_get begun place) ≡ is_there)
+IsPlaced number place begun is_there = (place ≡ place_in number begun)
+    × (is_of_number number (slice_get begun place) ≡ is_there)
 
 -- their numbers rise
 abbrev pub Rise : {D : Type 0} {g : _} → List (Session D g) → Type 0

@@ -42,11 +42,13 @@ reading_at places session role = reading_in (places (disk_name session role))
 
 -- what is said of three readings holds of the session's disks
 abbrev pub OfDisks : Places → ℕ → (List ℕ → List ℕ → List ℕ → Type 0) → Type 0
-OfDisks places session Holds = Holds (reading_at places session roles.Low) (reading_at places session roles.High) (reading_at places session roles.Recv)
+OfDisks places session Holds = Holds (reading_at places session roles.Low) (reading_at places session roles.High)
+    (reading_at places session roles.Recv)
 
 -- .. once each that is empty is formatted
 abbrev pub OfReadied : SessionRow → (List ℕ → List ℕ → List ℕ → Type 0) → List ℕ → List ℕ → List ℕ → Type 0
-OfReadied row Holds low high recv = Holds (readied row roles.Low low) (readied row roles.High high) (readied row roles.Recv recv)
+OfReadied row Holds low high recv = Holds (readied row roles.Low low) (readied row roles.High high)
+    (readied row roles.Recv recv)
 
 -- ---- the disks of a session ----
 
@@ -56,7 +58,8 @@ HasFound places row f = OfDisks places row.id (OfReadied row (StandForFound row 
 
 -- they can't be opened: the first cause is this disk's
 abbrev pub IsRefusedFor : Places → SessionRow → Role → Why → Type 0
-IsRefusedFor places row role why = OfDisks places row.id (OfReadied row (λ low high recv. IsRefused row low high recv role why))
+IsRefusedFor places row role why = OfDisks places row.id
+    (OfReadied row (λ low high recv. IsRefused row low high recv role why))
 
 -- they stand for this world; or for it with each call that is unfinished kept or lost
 abbrev pub HoldsWorld : Places → SessionRow → World → Type 0
@@ -81,7 +84,8 @@ ReadsAlike before after = (name : DiskName) → reading_in (after name) ≡ read
 
 -- every disk that was not empty does
 abbrev pub Spares : Places → Places → Type 0
-Spares before after = (name : DiskName) → (reading_in (before name) ≡ [] → ⊥) → reading_in (after name) ≡ reading_in (before name)
+Spares before after = (name : DiskName) → (reading_in (before name) ≡ [] → ⊥) → reading_in (after name)
+    ≡ reading_in (before name)
 
 -- every disk of this session is where it was
 abbrev pub LeavesSession : Places → Places → ℕ → Type 0
@@ -89,7 +93,8 @@ LeavesSession before after session = (role : Role) → after (disk_name session 
 
 -- every disk of it that was not empty reads as it did
 abbrev pub SparesSession : Places → Places → ℕ → Type 0
-SparesSession before after session = (role : Role) → (reading_at before session role ≡ [] → ⊥) → reading_at after session role ≡ reading_at before session role
+SparesSession before after session = (role : Role) → (reading_at before session role ≡ [] → ⊥)
+    → reading_at after session role ≡ reading_at before session role
 
 -- .. and one that was is so still, or is a new disk of the row
 abbrev pub ReadiesSession : Places → Places → SessionRow → Type 0
@@ -100,9 +105,9 @@ ReadiesSession before after row = (role : Role) → (reading_at after row.id rol
 abbrev pub ReadsSessionAlike : Places → Places → ℕ → Type 0
 ReadsSessionAlike before after session = (role : Role) → reading_at after session role ≡ reading_at before session role
 
--- Of a session that began on what its disks were found to hold: they stand for the world that it came to; the receiver's
--- list is a front of the accepted one, and every accepted message is in it or in the live slots of the low disk; so is, with
--- the payload that was accepted, every message whose acknowledgement was printed
+-- Of a session that began on what its disks were found to hold: they stand for the world that it came to; the
+-- receiver's list is a prefix of the accepted one, and every accepted message is in it or in the live slots of the
+-- low disk; so is, with the payload that was accepted, every message whose acknowledgement was printed
 pub record KeepsSession (before after : Places) (s : Running) (f : Found) (printed : List Event) : Type 0 where
   pub found : HasFound before s.row f
   pub holds : HoldsWorld after s.row s.past.world
@@ -112,7 +117,8 @@ pub record KeepsSession (before after : Places) (s : Running) (f : Found) (print
 
 -- ---- what the headline says of the disks ----
 
--- each message whose acknowledgement was printed outlives the call: the receiver's disk has it, or its slot of the low disk
+-- each message whose acknowledgement was printed outlives the call: the receiver's disk has it, or its slot of the
+-- low disk
 abbrev pub AcknowledgedOutlive : Places → Option Begun → List Event → Type 0
 AcknowledgedOutlive after (Some (Whole s)) printed =
     (received : List Payload) × RecvStands s.row received (reading_at after s.row.id roles.Recv)
@@ -121,18 +127,18 @@ AcknowledgedOutlive after (Some (Whole s)) printed =
 AcknowledgedOutlive after (Some (Alone s)) printed = Unit {0}
 AcknowledgedOutlive after None printed = Unit {0}
 
--- the receiver's list is a front of the accepted one
-abbrev pub ReceiverHasFront : Places → Option Begun → Type 0
-ReceiverHasFront after (Some (Whole s)) =
+-- the receiver's list is a prefix of the accepted one
+abbrev pub ReceiverHasPrefix : Places → Option Begun → Type 0
+ReceiverHasPrefix after (Some (Whole s)) =
     (received : List Payload) × RecvStands s.row received (reading_at after s.row.id roles.Recv)
     × IsPrefixOf received s.past.world.accepted
-ReceiverHasFront after (Some (Alone s)) = Unit {0}
-ReceiverHasFront after None = Unit {0}
+ReceiverHasPrefix after (Some (Alone s)) = Unit {0}
+ReceiverHasPrefix after None = Unit {0}
 
 -- ---- the sessions of a script ----
 
--- so of the session of this number, where the script has begun it and it has disks of the shelf; else those of this number
--- are where they were
+-- so of the session of this number, where the script has begun it and it has disks of the shelf; else those of this
+-- number are where they were
 abbrev pub IsKept : Places → Places → ℕ → Openings → Option Begun → List Event → Type 0
 IsKept before after number o (Some (Whole s)) printed = KeepsSession before after s (o s.row.id) printed
 IsKept before after number o (Some (Alone s)) printed = LeavesSession before after number
@@ -140,15 +146,17 @@ IsKept before after number o None printed = LeavesSession before after number
 
 -- .. of each number, of all these sessions
 abbrev pub AreKept : Places → Places → Openings → List Begun → List Event → Type 0
-AreKept before after o begun printed = (number : ℕ) → IsKept before after number o (session_at number begun) (events_of number printed)
+AreKept before after o begun printed = (number : ℕ)
+    → IsKept before after number o (session_at number begun) (events_of number printed)
 
 -- .. of each number but this one
 abbrev pub AreOthersKept : Places → Places → ℕ → Openings → List Begun → List Event → Type 0
 AreOthersKept before after one o begun printed =
-    (number : ℕ) → (number ≡ one → ⊥) → IsKept before after number o (session_at number begun) (events_of number printed)
+    (number : ℕ) → (number ≡ one → ⊥)
+    → IsKept before after number o (session_at number begun) (events_of number printed)
 
--- where the session of this number has begun and has disks of the shelf, each reads as it did, or it was empty, and is a new
--- disk of the session's row; else each reads as it did
+-- where the session of this number has begun and has disks of the shelf, each reads as it did, or it was empty, and
+-- is a new disk of the session's row; else each reads as it did
 abbrev pub IsReadied : Places → Places → ℕ → Option Begun → Type 0
 IsReadied before after number (Some (Whole s)) = (number ≡ s.row.id) × ReadiesSession before after s.row
 IsReadied before after number (Some (Alone s)) = ReadsSessionAlike before after number
@@ -158,8 +166,8 @@ IsReadied before after number None = ReadsSessionAlike before after number
 abbrev pub AreReadied : Places → Places → List Begun → Type 0
 AreReadied before after begun = (number : ℕ) → IsReadied before after number (session_at number begun)
 
--- of a session whose last line was cut short by the device of a disk: its world keeps all bounds, the unfinished call was
--- kept or lost, and no message that was accepted or acknowledged is lost
+-- of a session whose last line was cut short by the device of a disk: its world keeps all bounds, the unfinished call
+-- was kept or lost, and no message that was accepted or acknowledged is lost
 pub record BreaksSession (before after : Places) (s : Running) (f : Found) : Type 0 where
   pub found : HasFound before s.row f
   pub lawful : IsLawful s.past.world
@@ -185,7 +193,10 @@ abbrev pub shelved : Places → Places → Shelved
 shelved before after = record {
   keeps = AreKept before after;
   waits = AreReadied before after;
-  breaks = λ o begun s printed. BreaksSession before after s (o s.row.id) × AreOthersKept before after s.row.id o begun printed;
-  spares = λ o begun number printed. SparesSession before after number × AreOthersKept before after number o begun printed;
-  refuses = λ o begun row role why printed. IsRefusedFor before row role why × ReadiesSession before after row × AreOthersKept before after row.id o begun printed;
+  breaks = λ o begun s printed. BreaksSession before after s (o s.row.id)
+      × AreOthersKept before after s.row.id o begun printed;
+  spares = λ o begun number printed. SparesSession before after number
+      × AreOthersKept before after number o begun printed;
+  refuses = λ o begun row role why printed. IsRefusedFor before row role why × ReadiesSession before after row
+      × AreOthersKept before after row.id o begun printed;
 }

@@ -17,7 +17,8 @@ IsEnd rest number sessions None = rest ≡ []
 IsEnd rest number sessions (Some fault) = (IsFaultyAt number (Some rest) sessions × (fault ≡ fault_after number))
     ⊎ Stopping (Some rest) number sessions fault
 
--- the bytes begin with lines that can all be applied on disks that were found so, fewer than 2^32, and end so after them
+-- the bytes begin with lines that can all be applied on disks that were found so, fewer than 2^32, and end so after
+-- them
 pub record EndsWith (o : Openings) (bytes : List ℕ) (end : Option Fault) : Type 0 where
   pub lines : List Line
   pub events : List Event
@@ -42,7 +43,8 @@ abbrev pub IsFoundFor : Places → Openings → Line → Type 0
 IsFoundFor before o (Session row) = HasFound before row (o row.id)
 IsFoundFor before o line = Unit {0}
 
--- all lines of the bytes can be applied, none of them stops the script, and the disks of each session are found to hold what it begins on
+-- all lines of the bytes can be applied, none of them stops the script, and the disks of each session are found to
+-- hold what it begins on
 pub record CanFinish (before : Places) (bytes : List ℕ) : Type 0 where
   pub openings : Openings
   pub ends : EndsWith openings bytes None
@@ -50,4 +52,5 @@ pub record CanFinish (before : Places) (bytes : List ℕ) : Type 0 where
 
 -- whatever the bytes of the script end with, on the disks that were found, this is its status
 abbrev pub HasStatus : ℕ → {all : Option (List ℕ)} → Replayed all → List ℕ → Type 0
-HasStatus status {all} r output = (bytes : List ℕ) (end : Option Fault) → all ≡ Some bytes → EndsWith r.openings bytes end → status ≡ status_of end
+HasStatus status {all} r output = (bytes : List ℕ) (end : Option Fault) → all ≡ Some bytes
+    → EndsWith r.openings bytes end → status ≡ status_of end

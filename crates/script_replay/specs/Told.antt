@@ -19,8 +19,8 @@ use Rattle.script_replay.specs.Sessions.{StandsFor, found_at}
 use Rattle.script_replay.specs.Replays.{IsNear}
 use Rattle.script_replay.specs.Runners.{IsDeviceOutcomeOf}
 
--- those of the lines that name this session begin a low side alone, and lead it to this; and the next line, whose store fails
--- as it is told, stops it
+-- those of the lines that name this session begin a low side alone, and lead it to this; and the next line, whose
+-- store fails as it is told, stops it
 pub record StopsAsTold (lines : List Line) (line : Line) (session : ℕ) : Type 0 where
   pub alone : RunningAlone
   pub printed : List Event
@@ -29,8 +29,8 @@ pub record StopsAsTold (lines : List Line) (line : Line) (session : ℕ) : Type 
   pub last : List Event
   pub stops : Stops (Some (Alone alone)) line after last (faults.Device session roles.Low)
 
--- the script tells the fault of a disk: these lines come first, and the next one stops a low side alone, as it is told. At
--- most 4,096 bytes were taken from that line on
+-- the script tells the fault of a disk: these lines come first, and the next one stops a low side alone, as it is
+-- told. At most 4,096 bytes were taken from that line on
 pub record TellsFault (all left : Option (List ℕ)) : Type 0 where
   pub lines : List Line
   pub from : Option (List ℕ)
@@ -44,9 +44,10 @@ pub record TellsFault (all left : Option (List ℕ)) : Type 0 where
 
 -- ---- while the script runs: it serves the private functions and the proofs ----
 
--- these lines begin a low side alone, and lead it to what the session stands for; it is new until a line came that needs not
--- stand first
-pub record IsLedBy {D : Type 0} {g : _} (d : Meaning D) (is_under_way : Bool) (session : Session D g) (lines : List Line) : Type 0 where
+-- these lines begin a low side alone, and lead it to what the session stands for; it is new until a line came that
+-- needs not stand first
+pub record IsLedBy {D : Type 0} {g : _} (d : Meaning D) (is_under_way : Bool) (session : Session D g)
+    (lines : List Line) : Type 0 where
   pub alone : RunningAlone
   pub printed : List Event
   pub stands : StandsFor d session (Alone alone)
@@ -57,11 +58,13 @@ pub record IsLedBy {D : Type 0} {g : _} (d : Meaning D) (is_under_way : Bool) (s
 abbrev pub IsMadeBy : {D : Type 0} {g : _} → Meaning D → Bool → Option (Session D g) → List Line → Type 0
 IsMadeBy d is_under_way None lines = lines ≡ []
 IsMadeBy d is_under_way (Some (sessions.Whole id p)) lines = Unit {0}
-IsMadeBy {D} {g} d is_under_way (Some (sessions.Alone id p)) lines = IsLedBy {g = g} d is_under_way (sessions.Alone id p) lines
+IsMadeBy {D} {g} d is_under_way (Some (sessions.Alone id p)) lines = IsLedBy {g = g} d is_under_way
+    (sessions.Alone id p) lines
 
 -- .. of each number, by the lines that name it
 abbrev pub AllAreMadeBy : {D : Type 0} {g : _} → Meaning D → Sessions D g → List Line → Type 0
-AllAreMadeBy d s lines = (number : ℕ) → IsMadeBy d s.is_under_way (found_at number s.begun.items) (lines_of number lines)
+AllAreMadeBy d s lines = (number : ℕ)
+    → IsMadeBy d s.is_under_way (found_at number s.begun.items) (lines_of number lines)
 
 -- this, if it is a low side alone
 abbrev pub IfAlone : {D : Type 0} {g : _} → Option (Session D g) → Type 0 → Type 0
@@ -70,6 +73,8 @@ IfAlone (Some (sessions.Whole id p)) P = Unit {0}
 IfAlone (Some (sessions.Alone id p)) P = P
 
 -- after these lines the next one leads the sessions to these; where it stops a low side alone for a device, it tells so
-pub record GoesAsTold {D : Type 0} {g : _} (d : Meaning D) (s : Sessions D g) (lines : List Line) (line : Line) (outcome : Outcome) : Type 0 where
+pub record GoesAsTold {D : Type 0} {g : _} (d : Meaning D) (s : Sessions D g) (lines : List Line) (line : Line)
+    (outcome : Outcome) : Type 0 where
   pub applied : outcome ≡ outcomes.Applied → AllAreMadeBy d s (lines ++ line ∷ [])
-  pub stopped : (number : ℕ) (role : Role) → IsDeviceOutcomeOf number role outcome → IfAlone (found_at number s.begun.items) (StopsAsTold lines line number)
+  pub stopped : (number : ℕ) (role : Role) → IsDeviceOutcomeOf number role outcome
+      → IfAlone (found_at number s.begun.items) (StopsAsTold lines line number)

@@ -28,13 +28,16 @@ pub struct NotTaken {
 
 /// Takes one disk of a session off the shelf.
 pub fn take_disk<S: Shelf>(shelf: &mut S, session: u32, role: Role) -> Result<S::Disk, NotTaken>
-    ensures read { IfOk result (λ disk. S.told.tells → ReadAt (S.told.disk shelf.old) session role (S.Disk.told.reading disk)) }
+    ensures read { IfOk result (λ disk. S.told.tells
+        → ReadAt (S.told.disk shelf.old) session role (S.Disk.told.reading disk)) }
     ensures out { IfOk result (λ disk. IsOutAt (S.told.disk shelf.new) session role (S.Disk.told.count disk)) }
     ensures none { IfErr result (λ e. S.told.disk shelf.new ≡ S.told.disk shelf.old) }
     ensures role { IfErr result (λ e. e.role ≡ role) }
-    ensures others { (name : DiskName) → (name ≡ disk_name session role → ⊥) → S.told.disk shelf.new name ≡ S.told.disk shelf.old name }
+    ensures others { (name : DiskName) → (name ≡ disk_name session role → ⊥) → S.told.disk shelf.new name
+        ≡ S.told.disk shelf.old name }
     ensures later { S.told.disk_faults shelf.old ≤ S.told.disk_faults shelf.new }
-    ensures cause { IfErr result (λ e. e.fault ≡ Failed → Rose (S.told.disk_faults shelf.old) (S.told.disk_faults shelf.new)) }
+    ensures cause { IfErr result (λ e. e.fault ≡ Failed
+        → Rose (S.told.disk_faults shelf.old) (S.told.disk_faults shelf.new)) }
 {
     match shelf.disk(DiskName { session, role }) {
         Ok(disk) => Ok(disk),
@@ -45,17 +48,25 @@ pub fn take_disk<S: Shelf>(shelf: &mut S, session: u32, role: Role) -> Result<S:
 /// Takes the three disks of a session off the shelf, low's first. Where one can't be taken, those
 /// before it are put back.
 pub fn take_disks<S: Shelf>(shelf: &mut S, session: u32) -> Result<TakenDisks<S::Disk>, NotTaken>
-    ensures low { IfOk result (λ disks. S.told.tells → ReadAt (S.told.disk shelf.old) session roles.Low (S.Disk.told.reading disks.low)) }
-    ensures high { IfOk result (λ disks. S.told.tells → ReadAt (S.told.disk shelf.old) session roles.High (S.Disk.told.reading disks.high)) }
-    ensures recv { IfOk result (λ disks. S.told.tells → ReadAt (S.told.disk shelf.old) session roles.Recv (S.Disk.told.reading disks.recv)) }
-    ensures low_out { IfOk result (λ disks. IsOutAt (S.told.disk shelf.new) session roles.Low (S.Disk.told.count disks.low)) }
-    ensures high_out { IfOk result (λ disks. IsOutAt (S.told.disk shelf.new) session roles.High (S.Disk.told.count disks.high)) }
-    ensures recv_out { IfOk result (λ disks. IsOutAt (S.told.disk shelf.new) session roles.Recv (S.Disk.told.count disks.recv)) }
+    ensures low { IfOk result (λ disks. S.told.tells
+        → ReadAt (S.told.disk shelf.old) session roles.Low (S.Disk.told.reading disks.low)) }
+    ensures high { IfOk result (λ disks. S.told.tells
+        → ReadAt (S.told.disk shelf.old) session roles.High (S.Disk.told.reading disks.high)) }
+    ensures recv { IfOk result (λ disks. S.told.tells
+        → ReadAt (S.told.disk shelf.old) session roles.Recv (S.Disk.told.reading disks.recv)) }
+    ensures low_out { IfOk result (λ disks. IsOutAt (S.told.disk shelf.new) session roles.Low
+        (S.Disk.told.count disks.low)) }
+    ensures high_out { IfOk result (λ disks. IsOutAt (S.told.disk shelf.new) session roles.High
+        (S.Disk.told.count disks.high)) }
+    ensures recv_out { IfOk result (λ disks. IsOutAt (S.told.disk shelf.new) session roles.Recv
+        (S.Disk.told.count disks.recv)) }
     ensures others { LeavesOtherSessions (S.told.disk shelf.old) (S.told.disk shelf.new) session }
-    ensures spared { IfErr result (λ e. S.told.tells → Spares (S.told.disk shelf.old) (S.told.disk shelf.new) × AllAreBack (S.told.disk shelf.old) (S.told.disk shelf.new)) }
+    ensures spared { IfErr result (λ e. S.told.tells → Spares (S.told.disk shelf.old) (S.told.disk shelf.new)
+        × AllAreBack (S.told.disk shelf.old) (S.told.disk shelf.new)) }
     ensures alike { IfErr result (λ e. S.told.tells → ReadsAlike (S.told.disk shelf.old) (S.told.disk shelf.new)) }
     ensures later { S.told.disk_faults shelf.old ≤ S.told.disk_faults shelf.new }
-    ensures cause { IfErr result (λ e. e.fault ≡ Failed → Rose (S.told.disk_faults shelf.old) (S.told.disk_faults shelf.new)) }
+    ensures cause { IfErr result (λ e. e.fault ≡ Failed
+        → Rose (S.told.disk_faults shelf.old) (S.told.disk_faults shelf.new)) }
     ensures asked { IfErr result (λ e. e.fault ≡ Failed → IsNotGiven S.told (S.told.disk shelf.old) session e.role) }
 {
     let low = take_disk(shelf, session, Role::Low)?;
@@ -80,8 +91,10 @@ pub fn take_disks<S: Shelf>(shelf: &mut S, session: u32) -> Result<TakenDisks<S:
 pub fn put_disk_back<S: Shelf>(shelf: &mut S, session: u32, role: Role, disk: S::Disk)
     requires { IsOut (S.told.disk shelf.old (disk_name session role)) }
     ensures back { S.told.tells → S.told.disk shelf.new (disk_name session role) ≡ OnShelf (S.Disk.told.reading disk) }
-    ensures others { (name : DiskName) → (name ≡ disk_name session role → ⊥) → S.told.disk shelf.new name ≡ S.told.disk shelf.old name }
-    ensures rises { RisesAt (S.told.disk shelf.old) session role (S.Disk.told.count disk) (S.told.disk_faults shelf.old) (S.told.disk_faults shelf.new) }
+    ensures others { (name : DiskName) → (name ≡ disk_name session role → ⊥) → S.told.disk shelf.new name
+        ≡ S.told.disk shelf.old name }
+    ensures rises { RisesAt (S.told.disk shelf.old) session role (S.Disk.told.count disk) (S.told.disk_faults shelf.old)
+        (S.told.disk_faults shelf.new) }
     ensures later { S.told.disk_faults shelf.old ≤ S.told.disk_faults shelf.new }
 {
     shelf.keep(DiskName { session, role }, disk);
@@ -98,11 +111,15 @@ pub fn put_disks_back<S: Shelf>(
     requires low { IsOut (S.told.disk shelf.old (disk_name session roles.Low)) }
     requires high { IsOut (S.told.disk shelf.old (disk_name session roles.High)) }
     requires recv { IsOut (S.told.disk shelf.old (disk_name session roles.Recv)) }
-    ensures back { S.told.tells → AreOnShelf (S.told.disk shelf.new) session (S.Disk.told.reading low) (S.Disk.told.reading high) (S.Disk.told.reading recv) }
+    ensures back { S.told.tells → AreOnShelf (S.told.disk shelf.new) session (S.Disk.told.reading low)
+        (S.Disk.told.reading high) (S.Disk.told.reading recv) }
     ensures others { LeavesOtherSessions (S.told.disk shelf.old) (S.told.disk shelf.new) session }
-    ensures low_rises { RisesAt (S.told.disk shelf.old) session roles.Low (S.Disk.told.count low) (S.told.disk_faults shelf.old) (S.told.disk_faults shelf.new) }
-    ensures high_rises { RisesAt (S.told.disk shelf.old) session roles.High (S.Disk.told.count high) (S.told.disk_faults shelf.old) (S.told.disk_faults shelf.new) }
-    ensures recv_rises { RisesAt (S.told.disk shelf.old) session roles.Recv (S.Disk.told.count recv) (S.told.disk_faults shelf.old) (S.told.disk_faults shelf.new) }
+    ensures low_rises { RisesAt (S.told.disk shelf.old) session roles.Low (S.Disk.told.count low)
+        (S.told.disk_faults shelf.old) (S.told.disk_faults shelf.new) }
+    ensures high_rises { RisesAt (S.told.disk shelf.old) session roles.High (S.Disk.told.count high)
+        (S.told.disk_faults shelf.old) (S.told.disk_faults shelf.new) }
+    ensures recv_rises { RisesAt (S.told.disk shelf.old) session roles.Recv (S.Disk.told.count recv)
+        (S.told.disk_faults shelf.old) (S.told.disk_faults shelf.new) }
     ensures later { S.told.disk_faults shelf.old ≤ S.told.disk_faults shelf.new }
 {
     put_disk_back(shelf, session, Role::Low, low);

@@ -2,6 +2,7 @@
 //! transcript, and answers how it ended.
 #![tactic(auto)]
 
+mod applying;
 mod disks;
 mod ended;
 mod outcome;
@@ -9,8 +10,8 @@ mod output;
 mod replaying;
 mod session;
 mod sessions;
-mod turn;
 
 pub use disks::{NotTaken, TakenDisks, put_disk_back, put_disks_back, take_disk, take_disks};
 pub use ended::Ended;
+pub use output::Output;
 pub use replaying::replay;

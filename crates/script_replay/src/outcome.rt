@@ -61,7 +61,8 @@ pub fn outcome_at(session: u32, role: Role, why: &Option<Why>) -> Outcome
 pub fn untaken(session: u32, not_taken: NotTaken) -> Outcome
     ensures line { StopsByLine result }
     ensures memory { not_taken.fault ≡ ShelfFault.Memory → result ≡ Outcome.Memory }
-    ensures failed { not_taken.fault ≡ ShelfFault.Failed → result ≡ Outcome.Stopped (Fault.Device session not_taken.role) }
+    ensures failed { not_taken.fault ≡ ShelfFault.Failed
+        → result ≡ Outcome.Stopped (Fault.Device session not_taken.role) }
 {
     match not_taken.fault {
         ShelfFault::Memory => Outcome::Memory,

@@ -4,52 +4,40 @@ ghost use Rattle.std.specs.Prelude.{◌≡◌, ◌<◌, ◌≤◌, ◌⊎◌, �
 ghost use Rattle.std.specs.Io.KnownBytes.{Appends};
 ghost use Rattle.disk_model.specs.declared.name.Role.{Role as DiskRole};
 ghost use Rattle.pump_frame.specs.Counts.{Rose};
-ghost use Rattle.pump_link.specs.Causes.{HasCause, AppendsFront};
-ghost use Rattle.script_reader.specs.Lines.{LineIsReady};
+ghost use Rattle.pump_link.specs.Causes.{HasCause, AppendsPrefix};
 ghost use Rattle.script_reader.specs.Sessions.{Sessions as Script, no_sessions, AllEnd};
 ghost use Rattle.script_reader.specs.declared.event.Event.{Event as Printed};
 ghost use Rattle.script_reader.specs.Transcript.{text, fault_line};
 ghost use Rattle.two_worlds.specs.Printing.{lines_in};
 ghost use Rattle.script_replay.specs.Sessions.{id_of, HasFailed, found_at, Rise, AreInOrder, AllStandFor};
-ghost use Rattle.script_replay.specs.Outputs.{held_of, Gathers};
+ghost use Rattle.script_replay.specs.Outputs.{held_of};
 ghost use Rattle.script_replay.specs.Ends.{EndsReplay};
 ghost use Rattle.script_replay.specs.Failing.{FailsAt};
 ghost use Rattle.script_replay.specs.Replays.{IsFailed, Wrote};
 ghost use Rattle.script_replay.specs.Shelves.{AllAreBack, LeavesOtherSessions, shelved};
 ghost use Rattle.script_replay.specs.Told.{TellsFault, IfAlone};
-ghost use Rattle.script_replay.specs.Runners.{AllHandOver, AreOut, AllAreOut, LeftAs, AllLeftAs, IsAloneOr, lent, Closes, EndsAs, IsDeviceFaultOf, DeviceFails};
+ghost use Rattle.script_replay.specs.Runners.{AllHandOver, AreOut, AllAreOut, LeftAs, AllLeftAs, IsAloneOr, lent};
+ghost use Rattle.script_replay.specs.Runners.{Closes, EndsAs, IsDeviceFaultOf, DeviceFails};
 
+use crate::applying::apply_line;
 use crate::disks::put_disks_back;
 use crate::ended::Ended;
 use crate::outcome::Outcome;
 use crate::output::Output;
 use crate::session::Session;
 use crate::sessions::Sessions;
-use crate::turn::turn;
 use arrayvec::ArrayVec;
 use disk_model::{Disk, Shelf};
 use pump_link::{Sink, Source, WriteFault};
 use script_reader::{Body, EventHead, Fault, LinedHead, Lines};
 use std::alloc::Global;
 
-/// Hands on what is held where the next line is not there yet, so that nobody waits for it.
-fn show<O: Sink>(lines: &Lines, output: &mut Output, out: &mut O) -> Result<(), WriteFault>
-    ensures shown { OnOk result ((LineIsReady lines.now.held → ⊥) → held_of output.new ≡ []) }
-    ensures ok { OnOk result (Gathers (held_of output.old) (held_of output.new) (O.written out.old) (O.written out.new) []) }
-    ensures err { OnErr result (AppendsFront (O.written out.old) (O.written out.new) (held_of output.old)) }
-    ensures cause { HasCause (O.faults out.old) (O.faults out.new) result }
-{
-    if lines.is_ready() {
-        return Ok(());
-    }
-    output.flush(out)
-}
-
 /// The script is at its end.
 fn finish<D: Disk, O: Sink>(sessions: &Sessions<D>, output: &mut Output, out: &mut O) -> Ended
     requires { AreInOrder sessions.now }
     ensures ends { (t : Script) → AllStandFor D.told sessions.now t → (last : List Printed) × AllEnd t.begun last
-        × Closes (O.written out.old) (O.written out.new) (O.faults out.old) (O.faults out.new) (held_of output.old ++ text last) Ended.Done result }
+        × Closes (O.written out.old) (O.written out.new) (O.faults out.old) (O.faults out.new)
+        (held_of output.old ++ text last) Ended.Done result }
     ensures cause { result ≡ Ended.Write → Rose (O.faults out.old) (O.faults out.new) }
     ensures other { (number : ℕ) (role : DiskRole) → IsDeviceFaultOf number role result → ⊥ }
     ensures memory { result ≡ Ended.Memory → ⊥ }
@@ -68,8 +56,10 @@ fn write_last<O: Sink>(
     output: &mut Output,
     out: &mut O,
 ) -> Result<(), WriteFault>
-    ensures ok { OnOk result (Appends (O.written out.old) (O.written out.new) (held_of output.old ++ text (lines_in last.now.items))) }
-    ensures err { OnErr result (AppendsFront (O.written out.old) (O.written out.new) (held_of output.old ++ text (lines_in last.now.items))) }
+    ensures ok { OnOk result (Appends (O.written out.old) (O.written out.new)
+        (held_of output.old ++ text (lines_in last.now.items))) }
+    ensures err { OnErr result (AppendsPrefix (O.written out.old) (O.written out.new)
+        (held_of output.old ++ text (lines_in last.now.items))) }
     ensures cause { HasCause (O.faults out.old) (O.faults out.new) result }
 {
     output.print_all(last.as_slice(), out)?;
@@ -78,7 +68,8 @@ fn write_last<O: Sink>(
 
 /// The script is not read further, because of this fault.
 fn stop<O: Sink>(fault: Fault, output: &mut Output, out: &mut O) -> Ended
-    ensures { Closes (O.written out.old) (O.written out.new) (O.faults out.old) (O.faults out.new) (held_of output.old ++ fault_line fault) (Ended.Stopped fault) result }
+    ensures { Closes (O.written out.old) (O.written out.new) (O.faults out.old) (O.faults out.new)
+        (held_of output.old ++ fault_line fault) (Ended.Stopped fault) result }
 {
     match output.stop(&fault, out) {
         Ok(()) => Ended::Stopped(fault),
@@ -88,7 +79,8 @@ fn stop<O: Sink>(fault: Fault, output: &mut Output, out: &mut O) -> Ended
 
 /// The line with this number is faulty.
 fn refuse<O: Sink>(number: u32, output: &mut Output, out: &mut O) -> Ended
-    ensures { Closes (O.written out.old) (O.written out.new) (O.faults out.old) (O.faults out.new) (held_of output.old ++ fault_line (Fault.Script number)) (Ended.Stopped (Fault.Script number)) result }
+    ensures { Closes (O.written out.old) (O.written out.new) (O.faults out.old) (O.faults out.new)
+        (held_of output.old ++ fault_line (Fault.Script number)) (Ended.Stopped (Fault.Script number)) result }
 {
     stop(Fault::Script { line: number }, output, out)
 }
@@ -104,12 +96,18 @@ fn run<S: Shelf, I: Source, O: Sink>(
     requires none { sessions.old.begun.items ≡ [] }
     requires stands { AllStandFor S.Disk.told sessions.old no_sessions }
     requires order { AreInOrder sessions.old }
-    ensures ends { S.told.tells → S.Disk.told.tells → EndsAs (lent S.Disk.told (S.told.disk shelf.old) (S.told.disk shelf.new) sessions.new.begun.items)
-        (I.left script.old) (I.left script.new) (O.written out.old) (O.written out.new) (I.faults script.old) (I.faults script.new) result }
-    ensures hands { AllHandOver S.told.tells S.Disk.told (S.told.disk shelf.old) (S.told.disk shelf.new) sessions.new.begun.items }
+    ensures ends { S.told.tells → S.Disk.told.tells
+        → EndsAs (lent S.Disk.told (S.told.disk shelf.old) (S.told.disk shelf.new) sessions.new.begun.items)
+        (I.left script.old) (I.left script.new) (O.written out.old) (O.written out.new) (I.faults script.old)
+        (I.faults script.new) result }
+    ensures hands { AllHandOver S.told.tells S.Disk.told (S.told.disk shelf.old) (S.told.disk shelf.new)
+        sessions.new.begun.items }
     ensures rise { Rise sessions.new.begun.items }
-    ensures device { (number : ℕ) (role : DiskRole) → IsDeviceFaultOf number role result → DeviceFails S.told S.Disk.told (S.told.disk shelf.old) shelf.old shelf.new sessions.new.begun.items number role }
-    ensures told { (number : ℕ) (role : DiskRole) → IsDeviceFaultOf number role result → IfAlone (found_at number sessions.new.begun.items) (TellsFault (I.left script.old) (I.left script.new)) }
+    ensures device { (number : ℕ) (role : DiskRole) → IsDeviceFaultOf number role result
+        → DeviceFails S.told S.Disk.told (S.told.disk shelf.old) shelf.old shelf.new sessions.new.begun.items number
+        role }
+    ensures told { (number : ℕ) (role : DiskRole) → IsDeviceFaultOf number role result
+        → IfAlone (found_at number sessions.new.begun.items) (TellsFault (I.left script.old) (I.left script.new)) }
     ensures memory { result ≡ Ended.Memory → Appends (O.written out.old) (O.written out.new) [] }
     ensures later { S.told.disk_faults shelf.old ≤ S.told.disk_faults shelf.new }
     ensures write { result ≡ Ended.Write → Rose (O.faults out.old) (O.faults out.new) }
@@ -121,12 +119,12 @@ fn run<S: Shelf, I: Source, O: Sink>(
     let mut events = ArrayVec::new();
     let mut output = Output::new();
     'turns: loop {
-        match show(&lines, &mut output, out) {
+        match output.show(&lines, out) {
             Ok(()) => {}
             Err(_) => return Ended::Write,
         }
         match lines.next_head(script, &mut body) {
-            LinedHead::Line(line) => match turn(
+            LinedHead::Line(line) => match apply_line(
                 alloc,
                 shelf,
                 sessions,
@@ -153,8 +151,10 @@ fn run<S: Shelf, I: Source, O: Sink>(
 fn leave<S: Shelf>(session: Session<S::Disk>, shelf: &mut S)
     requires { AreOut (S.told.disk shelf.old) (Some session) }
     ensures others { LeavesOtherSessions (S.told.disk shelf.old) (S.told.disk shelf.new) (id_of session) }
-    ensures left { LeftAs S.told.tells S.Disk.told (S.told.disk shelf.old) (S.told.disk shelf.new) (id_of session) (Some session) }
-    ensures failed { (role : DiskRole) → HasFailed S.Disk.told (S.told.disk shelf.old) role (Some session) → IsAloneOr (Some session) (Rose (S.told.disk_faults shelf.old) (S.told.disk_faults shelf.new)) }
+    ensures left { LeftAs S.told.tells S.Disk.told (S.told.disk shelf.old) (S.told.disk shelf.new) (id_of session)
+        (Some session) }
+    ensures failed { (role : DiskRole) → HasFailed S.Disk.told (S.told.disk shelf.old) role (Some session)
+        → IsAloneOr (Some session) (Rose (S.told.disk_faults shelf.old) (S.told.disk_faults shelf.new)) }
     ensures later { S.told.disk_faults shelf.old ≤ S.told.disk_faults shelf.new }
 {
     if let Session::Whole { id, pump } = session {
@@ -167,9 +167,12 @@ fn leave<S: Shelf>(session: Session<S::Disk>, shelf: &mut S)
 fn leave_all<S: Shelf>(sessions: Sessions<S::Disk>, shelf: &mut S)
     requires out { AllAreOut (S.told.disk shelf.old) sessions.begun.items }
     requires rise { Rise sessions.begun.items }
-    ensures left { AllLeftAs S.told.tells S.Disk.told (S.told.disk shelf.old) (S.told.disk shelf.new) sessions.begun.items }
-    ensures failed { (number : ℕ) (role : DiskRole) → HasFailed S.Disk.told (S.told.disk shelf.old) role (found_at number sessions.begun.items)
-        → IsAloneOr (found_at number sessions.begun.items) (Rose (S.told.disk_faults shelf.old) (S.told.disk_faults shelf.new)) }
+    ensures left { AllLeftAs S.told.tells S.Disk.told (S.told.disk shelf.old) (S.told.disk shelf.new)
+        sessions.begun.items }
+    ensures failed { (number : ℕ) (role : DiskRole)
+        → HasFailed S.Disk.told (S.told.disk shelf.old) role (found_at number sessions.begun.items)
+        → IsAloneOr (found_at number sessions.begun.items) (Rose (S.told.disk_faults shelf.old)
+        (S.told.disk_faults shelf.new)) }
     ensures later { S.told.disk_faults shelf.old ≤ S.told.disk_faults shelf.new }
 {
     let Sessions {
@@ -204,16 +207,20 @@ pub fn replay<S: Shelf, I: Source, O: Sink>(
     script: &mut I,
     out: &mut O,
 ) -> u8
-    ensures ends { S.told.tells → S.Disk.told.tells → EndsReplay result (S.told.disk shelf.old) (S.told.disk shelf.new) (FailsAt S.told S.Disk.told shelf.old shelf.new)
-        (I.left script.old) (I.left script.new) (O.written out.old) (O.written out.new) (I.faults script.old) (I.faults script.new) }
+    ensures ends { S.told.tells → S.Disk.told.tells → EndsReplay result (S.told.disk shelf.old) (S.told.disk shelf.new)
+        (FailsAt S.told S.Disk.told shelf.old shelf.new)
+        (I.left script.old) (I.left script.new) (O.written out.old) (O.written out.new) (I.faults script.old)
+        (I.faults script.new) }
     ensures memory { result ≡ 1 → Appends (O.written out.old) (O.written out.new) [] }
     ensures words { result ≡ 2 → ⊥ }
     ensures back { S.told.tells → AllAreBack (S.told.disk shelf.old) (S.told.disk shelf.new) }
-    // A disk, a read and a write fail only where the count of the shelf, the source or the sink rose; a disk also where a
-    // line of the script tells so of a low side alone, whatever the shelf tells.
+    // A disk, a read and a write fail only where the count of the shelf, the source or the sink
+    // rose; a disk also where a line of the script tells so of a low side alone, whatever the shelf
+    // tells.
     ensures device { result ≡ 7 → Rose (S.told.disk_faults shelf.old) (S.told.disk_faults shelf.new)
         ⊎ (TellsFault (I.left script.old) (I.left script.new)
-        × (S.told.tells → S.Disk.told.tells → Wrote (I.left script.old) (O.written out.old) (O.written out.new) (IsFailed (shelved (S.told.disk shelf.old) (S.told.disk shelf.new)) (I.left script.new)))) }
+        × (S.told.tells → S.Disk.told.tells → Wrote (I.left script.old) (O.written out.old) (O.written out.new)
+        (IsFailed (shelved (S.told.disk shelf.old) (S.told.disk shelf.new)) (I.left script.new)))) }
     ensures read { result ≡ 3 → Rose (I.faults script.old) (I.faults script.new) }
     ensures write { result ≡ 4 → Rose (O.faults out.old) (O.faults out.new) }
     ensures status { (result ≤ 8) ⊎ (result ≡ 10) }

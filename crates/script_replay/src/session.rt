@@ -14,7 +14,8 @@ ghost use Rattle.two_worlds.specs.declared.applied.Stop.TheVariants as stops;
 ghost use Rattle.two_worlds.specs.Printing.{lines_in};
 ghost use Rattle.script_replay.specs.Runners.{IsFresh};
 ghost use Rattle.script_replay.specs.Shelves.{Places};
-ghost use Rattle.script_replay.specs.Sessions.{id_of, is_coarse, IsUp, IsAlone, StandsFor, SessionApplies, GoesOnWith, FailedWith};
+ghost use Rattle.script_replay.specs.Sessions.{id_of, is_coarse, IsUp, IsAlone, StandsFor, SessionApplies, GoesOnWith};
+ghost use Rattle.script_replay.specs.Sessions.{FailedWith};
 
 use arrayvec::ArrayVec;
 use disk_model::Disk;
@@ -40,7 +41,8 @@ impl<D: Disk> Session<D> {
     ) -> Result<Session<D>, OutOfMemory>
         requires lawful { IsLawfulRow row.now }
         requires count { IsCount next held }
-        ensures stands { IfOk result (λ session. StandsFor D.told session (Alone (record { row = row.now; past = fresh_alone next held }))) }
+        ensures stands { IfOk result (λ session. StandsFor D.told session
+            (Alone (record { row = row.now; past = fresh_alone next held }))) }
         ensures alone { IfOk result (λ session. IsAlone session) }
     {
         let pump = LowPump::open(alloc, row, next, held)?;
@@ -68,10 +70,12 @@ impl<D: Disk> Session<D> {
 
     /// Makes it coarse. It takes no memory, and makes no call of a disk.
     pub fn make_coarse(&mut self)
-        ensures stands { (running : Begun) → StandsFor D.told self.old running → StandsFor D.told self.new (made_coarse running) }
+        ensures stands { (running : Begun) → StandsFor D.told self.old running
+            → StandsFor D.told self.new (made_coarse running) }
         ensures up { IsUp self.old → IsUp self.new }
         ensures with { GoesOnWith D.told self.old self.new }
-        ensures fresh { (before now : Places) (number : ℕ) → IsFresh D.told before now number (Some self.old) → IsFresh D.told before now number (Some self.new) }
+        ensures fresh { (before now : Places) (number : ℕ) → IsFresh D.told before now number (Some self.old)
+            → IsFresh D.told before now number (Some self.new) }
     {
         match self {
             Session::Whole { pump, .. } => pump.make_coarse(),
@@ -95,10 +99,12 @@ impl<D: Disk> Session<D> {
         ensures applies { D.told.tells → (running : Begun) → StandsFor D.told self.old running
             → SessionApplies D.told running (line_with body.now line.now) self.new (lines_in events.new.items) result }
         ensures alone { (s : RunningAlone) → StandsFor D.told self.old (Alone s)
-            → SessionApplies D.told (Alone s) (line_with body.now line.now) self.new (lines_in events.new.items) result }
+            → SessionApplies D.told (Alone s) (line_with body.now line.now) self.new (lines_in events.new.items)
+            result }
         ensures up { result ≡ None → IsUp self.new }
         ensures with { GoesOnWith D.told self.old self.new }
-        ensures failed { (role : DiskRole) (count : ℕ) → result ≡ Some (stops.Device role count) → FailedWith D.told self.old self.new role }
+        ensures failed { (role : DiskRole) (count : ℕ) → result ≡ Some (stops.Device role count)
+            → FailedWith D.told self.old self.new role }
     {
         match self {
             Session::Whole { pump, .. } => pump.apply_head(line, body.as_slice(), events),

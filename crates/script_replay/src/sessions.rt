@@ -1,12 +1,16 @@
 //! The sessions that a script has begun.
 
-ghost use Rattle.std.specs.Prelude.{◌≡◌, ◌<◌, ◌≤◌, ◌+◌, ℕ, ◌||◌, true, false, not, nat_le, nat_lt, max, List, [], length, Some, IfOk, slice_get, vec_len, vec_capacity, position};
+ghost use Rattle.std.specs.Prelude.{◌≡◌, ◌<◌, ◌≤◌, ◌+◌, ℕ, ◌||◌, true, false, not, nat_le, nat_lt, max, List, []};
+ghost use Rattle.std.specs.Prelude.{length, Some, IfOk, slice_get, vec_len, vec_capacity, position};
 ghost use Rattle.std.specs.List.{insert as inserted};
 ghost use Rattle.script_reader.specs.Heads.{line_with};
 ghost use Rattle.script_reader.specs.Scripts.{Begun};
-ghost use Rattle.script_reader.specs.Sessions.{Sessions as Script, no_sessions, begins_session as begins, stands_first as is_first, moment_of as moment_so_far, is_in_turn as may_come, AllEnd};
+ghost use Rattle.script_reader.specs.Sessions.{Sessions as Script, no_sessions, begins_session as begins};
+ghost use Rattle.script_reader.specs.Sessions.{stands_first as is_first, moment_of as moment_so_far};
+ghost use Rattle.script_reader.specs.Sessions.{is_in_turn as may_come, AllEnd};
 ghost use Rattle.two_worlds.specs.Printing.{lines_in};
-ghost use Rattle.script_replay.specs.Sessions.{id_of, place_in, is_of_number, AreInOrder, EachStandsFor, AllStandFor, StandsFor};
+ghost use Rattle.script_replay.specs.Sessions.{id_of, place_in, is_of_number, AreInOrder, EachStandsFor, AllStandFor};
+ghost use Rattle.script_replay.specs.Sessions.{StandsFor};
 
 use crate::session::Session;
 use arrayvec::ArrayVec;
@@ -68,7 +72,8 @@ impl<D: Disk> Sessions<D> {
 
     /// Whether there are fewer sessions than a script may have, where the line is to begin one.
     fn has_room_for(&self, line: &LineHead) -> bool
-        ensures { (bytes : List ℕ) → result ≡ (not (begins (line_with bytes line.now)) || nat_lt (length self.now.begun.items) 16) }
+        ensures { (bytes : List ℕ) → result
+            ≡ (not (begins (line_with bytes line.now)) || nat_lt (length self.now.begun.items) 16) }
     {
         !begins_session(line) || self.begun.len() < MOST_SESSIONS
     }
@@ -77,10 +82,12 @@ impl<D: Disk> Sessions<D> {
     /// one that begins a session as long as there are fewer than 16; another no earlier than those before
     /// it.
     pub fn is_in_turn(&self, line: &LineHead) -> bool
-        ensures may { (bytes : List ℕ) (t : Script) → AllStandFor D.told self.now t → may_come t (line_with bytes line.now) ≡ result }
+        ensures may { (bytes : List ℕ) (t : Script) → AllStandFor D.told self.now t
+            → may_come t (line_with bytes line.now) ≡ result }
         ensures first { (bytes : List ℕ) → result ≡ true → begins (line_with bytes line.now) ≡ true
             → (self.now.is_under_way ≡ false) × (length self.now.begun.items < 16) }
-        ensures way { (bytes : List ℕ) → result ≡ true → is_first (line_with bytes line.now) ≡ true → self.now.is_under_way ≡ false }
+        ensures way { (bytes : List ℕ) → result ≡ true → is_first (line_with bytes line.now) ≡ true
+            → self.now.is_under_way ≡ false }
     {
         if stands_first(line) {
             return !self.is_under_way && self.has_room_for(line);
@@ -108,12 +115,14 @@ impl<D: Disk> Sessions<D> {
     }
 
     /// The line led the session at this place to where it is.
-    pub fn go_on_by(&mut self, line: &LineHead, place: usize)
+    pub fn note_applied(&mut self, line: &LineHead, place: usize)
         requires { place < vec_len self.old.begun }
         ensures begun { self.new.begun ≡ self.old.begun }
-        ensures moment { (session : _) (running : Begun) → slice_get self.old.begun.items place ≡ Some session → StandsFor D.told session running
+        ensures moment { (session : _) (running : Begun) → slice_get self.old.begun.items place ≡ Some session
+            → StandsFor D.told session running
             → self.new.moment ≡ max self.old.moment (moment_so_far running) }
-        ensures under_way { (bytes : List ℕ) → self.new.is_under_way ≡ (self.old.is_under_way || not (is_first (line_with bytes line.now))) }
+        ensures under_way { (bytes : List ℕ) → self.new.is_under_way
+            ≡ (self.old.is_under_way || not (is_first (line_with bytes line.now))) }
     {
         self.moment = self.moment.max(self.begun[place].moment());
         self.is_under_way = self.is_under_way || !stands_first(line);
@@ -122,7 +131,8 @@ impl<D: Disk> Sessions<D> {
     /// What the end of the script prints.
     pub fn ends(&self) -> ArrayVec<EventHead, 16>
         requires { length self.now.begun.items ≤ 16 }
-        ensures { (running : List Begun) → EachStandsFor D.told self.now.begun.items running → AllEnd running (lines_in result.items) }
+        ensures { (running : List Begun) → EachStandsFor D.told self.now.begun.items running
+            → AllEnd running (lines_in result.items) }
     {
         let mut ends = ArrayVec::new();
         'ends: for session in self.begun.as_slice() {

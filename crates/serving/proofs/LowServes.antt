@@ -10,7 +10,7 @@ use Rattle.disk_model.specs.Disk.{Meaning}
 use Rattle.pump_frame.specs.Rows.{IsLawfulRow}
 use Rattle.pump_frame.specs.declared.frame.Item.{Item}
 use Rattle.pump_frame.specs.declared.row.SessionRow.{SessionRow}
-use Rattle.pump_link.specs.Causes.{AppendsFront, HasCause}
+use Rattle.pump_link.specs.Causes.{AppendsPrefix, HasCause}
 use Rattle.pump_link.proofs.Grown.{Grows-all, Draws-all}
 use Rattle.pump_core.specs.Exchanges.{Part, IsCut, count_after}
 use Rattle.pump_core.specs.Passage.{Low, NeverFall, new_low, new_high}
@@ -71,17 +71,17 @@ opening_written {W} {S} {E} {T} {F} old new result row next parts row_is next_is
       by_result (Ok x) fine ok = ok
       by_result (Err x) fine ok = absurd (cc)
 
--- a front of it was
+-- a prefix of it was
 pub opening_broke : {W S E T F : Type 0} (old new : Option (List ℕ)) (before now : ℕ) (result : Result T F) (row : SessionRow) (next : ℕ) (parts : LowParts W S E) {failed : Bool}
     → row ≡ row_of parts.process → next ≡ next_of parts.process → failed ≡ is_err result → failed ≡ true
-    → OnErr result (AppendsFront old new (first_text row (record { count = next; is_held = parts.is_held }))) → HasCause before now result → Reaches (Appends old new) before now false (opening_text parts ++ [])
+    → OnErr result (AppendsPrefix old new (first_text row (record { count = next; is_held = parts.is_held }))) → HasCause before now result → Reaches (Appends old new) before now false (opening_text parts ++ [])
 opening_broke {W} {S} {E} {T} {F} old new before now result row next parts row_is next_is asked broke err cause = by_result result (sym asked ∙ broke) err cause where
   bytes_are : first_text row (record { count = next; is_held = parts.is_held }) ≡ opening_text parts ++ []
   bytes_are = ap (λ (x : SessionRow × ℕ). first_text x.0 (record { count = x.1; is_held = parts.is_held })) (λ i. (row_is i, next_is i)) ∙ sym (append-nil (opening_text parts))
 
-  by_result : (r : Result T F) → is_err r ≡ true → OnErr r (AppendsFront old new (first_text row (record { count = next; is_held = parts.is_held }))) → HasCause before now r → Reaches (Appends old new) before now false (opening_text parts ++ [])
+  by_result : (r : Result T F) → is_err r ≡ true → OnErr r (AppendsPrefix old new (first_text row (record { count = next; is_held = parts.is_held }))) → HasCause before now r → Reaches (Appends old new) before now false (opening_text parts ++ [])
   by_result (Ok x) broke err cause = absurd (cc)
-  by_result (Err x) broke err cause = record { whole = λ e. absurd (cc); front = subst (AppendsFront old new) bytes_are err; cause = λ e. cause.failed; later = cause.later }
+  by_result (Err x) broke err cause = record { whole = λ e. absurd (cc); prefix = subst (AppendsPrefix old new) bytes_are err; cause = λ e. cause.failed; later = cause.later }
 
 -- a reader of scripts reads it
 pub opening_reads : {W S E : Type 0} (row : SessionRow) (next : ℕ) (parts : LowParts W S E) → row ≡ row_of parts.process → next ≡ next_of parts.process

@@ -23,7 +23,8 @@ pub record DoorsTell (D L : Type 0) : Type 1 where
 abbrev pub links : {L : Type 0} → (L → List Looked → Type 0) → (L → List ℕ → Type 0) → (L → ℕ) → LinksTell L
 links gives sent faults = record { gives = gives; sent = sent; faults = faults }
 
-abbrev pub doors : {D L : Type 0} → (D → ℕ → Type 0) → (D → List (DoorStep L) → Type 0) → (D → List (DoorStep L) → Type 0) → LinksTell L → DoorsTell D L
+abbrev pub doors : {D L : Type 0} → (D → ℕ → Type 0) → (D → List (DoorStep L) → Type 0)
+    → (D → List (DoorStep L) → Type 0) → LinksTell L → DoorsTell D L
 doors port did gives tell = record { port = port; did = did; gives = gives; links = tell }
 
 -- The ports of a side did this alone: they opened a door of this port, and shut it again.
@@ -31,7 +32,8 @@ abbrev pub IsOpenedAndShut : {D L : Type 0} → PortsTell D L → ℕ → D → 
 IsOpenedAndShut ports port opened shut = Grows ports.did ports.now_did (Listened port opened ∷ ShutDoor shut ∷ [])
 
 -- .. with some door, and these are all its steps, and these its answers.
-pub record AtDoor {D L : Type 0} (t : DoorsTell D L) (ports : PortsTell D L) (port : ℕ) (steps answers : List (DoorStep L)) : Type 0 where
+pub record AtDoor {D L : Type 0} (t : DoorsTell D L) (ports : PortsTell D L) (port : ℕ)
+    (steps answers : List (DoorStep L)) : Type 0 where
   pub opened : D
   pub shut : D
   pub in_call : IsOpenedAndShut ports port opened shut
@@ -47,8 +49,8 @@ OpensAndShuts {D} ports port = (door : D) × IsOpenedAndShut ports port door doo
 abbrev pub GiveNoDoor : {D L : Type 0} → PortsTell D L → ℕ → Type 0
 GiveNoDoor ports port = Grows ports.did ports.now_did (NoDoor port ∷ []) × Rose ports.faults ports.now_faults
 
--- A door was wanting: that of the low port, and the high side's ports were not used; or that of the high port, and the low
--- door was opened and shut.
+-- A door was wanting: that of the low port, and the high side's ports were not used; or that of the high port, and
+-- the low door was opened and shut.
 abbrev pub WantDoor : {D L : Type 0} → PortsTell D L → PortsTell D L → ℕ → ℕ → Type 0
 WantDoor low high low_port high_port =
     (GiveNoDoor low low_port × AreUnused high)

@@ -24,32 +24,38 @@ pub record HasStore {S : Type 0} (m : Meaning S) (p : HighProcess) (store : High
   pub count : high_count store ≡ removed_of p
 
 -- the stays at its door, which was the one and is the other, lead from these parts to those
-pub record HighRan {R L S H Place : Type 0} (t : DoorsTell R L) (m : Meaning S) (e : EndTells H Place) (reads now_reads : List ℕ → Type 0) (rounds : ℕ) (opened shut : R) (v w : HighParts S H) (end : RoundsEnd) : Type 0 where
-  pub stays : List (Stay L)
-  pub so : StaysSo v.process w.process stays
-  pub ends : EndsStays stays rounds end
-  pub did : Grows (t.did opened) (t.did shut) (steps stays)
-  pub gave : Draws (t.gives opened) (t.gives shut) (answers stays)
-  pub port : (n : ℕ) → t.port opened n → t.port shut n
-  pub links : AllByRecursion (TellsVisit t.links.gives t.links.sent t.links.faults (row_of v.process).id) stays
-  pub moments : Draws reads now_reads (moments_in stays)
-  pub still : IsStillOf e v.ends w.ends
-  pub takes : StaysTake e.stands v.ends w.ends v.process w.process stays
-  pub device : CountsEnd (Some end) (m.count (high_disk v.store)) (m.count (high_disk w.store))
-  pub store : is_broken (Some end) ≡ false → HasStore m w.process w.store
-  pub counts : m.count (high_disk v.store) ≤ m.count (high_disk w.store)
+pub record HighRan {R L S H Place : Type 0} (t : DoorsTell R L) (m : Meaning S) (e : EndTells H Place)
+    (reads now_reads : List ℕ → Type 0) (rounds : ℕ) (opened shut : R) (v w : HighParts S H) (end : RoundsEnd) : Type 0
+  where
+    pub stays : List (Stay L)
+    pub so : StaysSo v.process w.process stays
+    pub ends : EndsStays stays rounds end
+    pub did : Grows (t.did opened) (t.did shut) (steps stays)
+    pub gave : Draws (t.gives opened) (t.gives shut) (answers stays)
+    pub port : (n : ℕ) → t.port opened n → t.port shut n
+    pub links : AllByRecursion (TellsVisit t.links.gives t.links.sent t.links.faults (row_of v.process).id) stays
+    pub moments : Draws reads now_reads (moments_in stays)
+    pub still : IsStillOf e v.ends w.ends
+    pub takes : StaysTake e.stands v.ends w.ends v.process w.process stays
+    pub device : CountsEnd (Some end) (m.count (high_disk v.store)) (m.count (high_disk w.store))
+    pub store : is_broken (Some end) ≡ false → HasStore m w.process w.store
+    pub counts : m.count (high_disk v.store) ≤ m.count (high_disk w.store)
 
--- .. at the door that the half had, which it has no more: it was shut, and nothing else was done at the ports of the side
-pub record HighDone {R L S H Place : Type 0} (t : DoorsTell R L) (m : Meaning S) (e : EndTells H Place) (side : SideTells R L) (rounds : ℕ) (door now_door : Option R) (v w : HighParts S H) (end : RoundsEnd) : Type 0 where
-  pub opened : R
-  pub shut : R
-  pub had : door ≡ Some opened
-  pub has_none : now_door ≡ None
-  pub did : Grows side.ports.did side.ports.now_did (ShutDoor shut ∷ [])
-  pub ran : HighRan t m e side.reads side.now_reads rounds opened shut v w end
+-- .. at the door that the half had, which it has no more: it was shut, and nothing else was done at the ports of the
+-- side
+pub record HighDone {R L S H Place : Type 0} (t : DoorsTell R L) (m : Meaning S) (e : EndTells H Place)
+    (side : SideTells R L) (rounds : ℕ) (door now_door : Option R) (v w : HighParts S H) (end : RoundsEnd) : Type 0
+  where
+    pub opened : R
+    pub shut : R
+    pub had : door ≡ Some opened
+    pub has_none : now_door ≡ None
+    pub did : Grows side.ports.did side.ports.now_did (ShutDoor shut ∷ [])
+    pub ran : HighRan t m e side.reads side.now_reads rounds opened shut v w end
 
 -- .. at a door of this port that was opened and shut
-pub record HighLent {R L S H Place : Type 0} (t : DoorsTell R L) (m : Meaning S) (e : EndTells H Place) (side : SideTells R L) (port rounds : ℕ) (v w : HighParts S H) (end : RoundsEnd) : Type 0 where
+pub record HighLent {R L S H Place : Type 0} (t : DoorsTell R L) (m : Meaning S) (e : EndTells H Place)
+    (side : SideTells R L) (port rounds : ℕ) (v w : HighParts S H) (end : RoundsEnd) : Type 0 where
   pub opened : R
   pub shut : R
   pub fresh : t.did opened []

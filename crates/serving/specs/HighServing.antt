@@ -8,7 +8,8 @@ use Rattle.pump_core.specs.Passage.{High}
 use Rattle.stable_buffer.specs.High.{StandsForRemoved}
 use Rattle.relay_threads.specs.Workers.{CountsEnd}
 use Rattle.relay_threads.specs.HighEnds.{answers_over, given, misses}
-use Rattle.relay_threads.specs.HighStays.{Stay, AreStays, EndsStays, TellsVisit, is_broken, stayed, steps, answers, moments_in}
+use Rattle.relay_threads.specs.HighStays.{Stay, AreStays, EndsStays, TellsVisit, is_broken, stayed, steps, answers}
+use Rattle.relay_threads.specs.HighStays.{moments_in}
 use Rattle.relay_threads.specs.StoredMessages.{payloads}
 use Rattle.relay_threads.specs.declared.rounds_end.RoundsEnd.{RoundsEnd}
 use Rattle.serving.specs.Doors.{DoorsTell, AtDoor}
@@ -25,7 +26,8 @@ pub record DidHigh {L : Type 0} (row : SessionRow) (o : AtOpening) (stays : List
 
 -- The high worker made its rounds, or ended before: from this opening on, at a door of the row's high port, by the
 -- readings of the high side's clock, over the high disk. `h` is what was done at its end of the passage.
-pub record HighServed {D L S : Type 0} (t : DoorsTell D L) (m : Meaning S) (row : SessionRow) (rounds : ℕ) (side : SideTells D L) (o : AtOpening) (h : High) (disk now_disk : S) (end : RoundsEnd) : Type 0 where
+pub record HighServed {D L S : Type 0} (t : DoorsTell D L) (m : Meaning S) (row : SessionRow) (rounds : ℕ)
+    (side : SideTells D L) (o : AtOpening) (h : High) (disk now_disk : S) (end : RoundsEnd) : Type 0 where
   -- the stays, which go on from the opening
   pub stays : List (Stay L)
   pub are : AreStays row (high_opening o) stays
@@ -36,5 +38,6 @@ pub record HighServed {D L S : Type 0} (t : DoorsTell D L) (m : Meaning S) (row 
   -- what they did at the end of the passage
   pub did : DidHigh row o stays h
   -- the disk counts what was removed, unless it failed
-  pub left : is_broken (Some end) ≡ false → m.tells → StandsForRemoved (stayed row (high_opening o) stays).removed (m.reading now_disk)
+  pub left : is_broken (Some end) ≡ false → m.tells
+      → StandsForRemoved (stayed row (high_opening o) stays).removed (m.reading now_disk)
   pub device : CountsEnd (Some end) (m.count disk) (m.count now_disk)

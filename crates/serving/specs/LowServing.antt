@@ -15,7 +15,8 @@ use Rattle.pump_core.specs.Phases.{Phase, Down}
 use Rattle.pump_core.specs.Standing.{phase_after}
 use Rattle.stable_buffer.specs.Low.{StandsForCount}
 use Rattle.relay_threads.specs.LowEnds.{HasAll, passed_in, fulls_in}
-use Rattle.relay_threads.specs.LowStays.{Stay, AreStays, TellsVisit, is_kept_by, stayed, steps, answers, moments_in, words_in}
+use Rattle.relay_threads.specs.LowStays.{Stay, AreStays, TellsVisit, is_kept_by, stayed, steps, answers, moments_in}
+use Rattle.relay_threads.specs.LowStays.{words_in}
 use Rattle.relay_threads.specs.PairsRead.{pairs_of}
 use Rattle.relay_threads.specs.Reaching.{Reaches}
 use Rattle.relay_threads.specs.Records.{Made, AreMade, life_made}
@@ -35,7 +36,8 @@ pub record DidLow (row : SessionRow) (o : AtOpening) (made : List Made) (l : Low
   pub passed : length l.forwarded ≡ length (between_hands row o) + passed_in made
   -- with at most one in the hand, what was forwarded is what the opening found behind the high hand, and all that
   -- was stored since, each message in its turn
-  pub items : (hand : Option Item) × HasAll row (low_opening o) made (between_hands row o ++ option_to_list o.low_hand) l.forwarded hand
+  pub items : (hand : Option Item) × HasAll row (low_opening o) made (between_hands row o ++ option_to_list o.low_hand)
+      l.forwarded hand
   -- a try was in vain for each look that found the passage full, and all places were
   pub fulls : map (λ t. t.0) l.tries ≡ fulls_in (length (between_hands row o)) made
   pub full : All (λ t. t.0 ≡ t.1 + (row.capacity - 2)) l.tries
@@ -50,8 +52,10 @@ is_lost _ = false
 -- The low worker made its rounds, or ended before: from this opening on, at a door of the row's low port, by the
 -- readings of the low side's clock, with the words of the key, over the low disk. `l` is what was done at its end of
 -- the passage.
-pub record LowServed {D L S : Type 0} (t : DoorsTell D L) (m : Meaning S) (row : SessionRow) (rounds : ℕ) (key : List ℕ) (side : SideTells D L)
-    (written now_written : Option (List ℕ)) (faults now_faults : ℕ) (o : AtOpening) (l : Low) (disk now_disk : S) (end : RoundsEnd) : Type 0 where
+pub record LowServed {D L S : Type 0} (t : DoorsTell D L) (m : Meaning S) (row : SessionRow) (rounds : ℕ) (key : List ℕ)
+    (side : SideTells D L)
+    (written now_written : Option (List ℕ)) (faults now_faults : ℕ) (o : AtOpening) (l : Low) (disk now_disk : S)
+    (end : RoundsEnd) : Type 0 where
   -- the stays, whose looks are the life of the low process from the opening on, each with the reply that is due
   pub is_opened : Bool
   pub stays : List (Stay L)
@@ -62,8 +66,9 @@ pub record LowServed {D L S : Type 0} (t : DoorsTell D L) (m : Meaning S) (row :
   pub links : AllByRecursion (TellsVisit t.links.gives t.links.sent t.links.faults) stays
   pub moments : Draws side.reads side.now_reads (moments_in stays)
   pub words : AreWords (key_of key) 0 0 (words_in stays)
-  -- the record of these looks was written, or a front of it
-  pub tape : Reaches (Appends written now_written) faults now_faults (is_kept_by (Some end)) (record_text row (low_opening o) (stayed [] stays))
+  -- the record of these looks was written, or a prefix of it
+  pub tape : Reaches (Appends written now_written) faults now_faults (is_kept_by (Some end))
+      (record_text row (low_opening o) (stayed [] stays))
   -- a reader of scripts reads each line of it
   pub readable : AreReadable row (low_opening o) (stayed [] stays)
   -- .. and each average that it tells is a level, where the session is coarse
@@ -76,5 +81,6 @@ pub record LowServed {D L S : Type 0} (t : DoorsTell D L) (m : Meaning S) (row :
   -- failed
   pub left : m.tells → (parts : List Part) × IsCut row (life_made (low_opening o) (stayed [] stays)) parts
       × (is_lost (phase_after row (low_opening o) parts) ≡ false
-      → StandsForCount row (count_after (low_opening o) parts) (m.reading now_disk) × StandsForLast row o.removed (o.messages ++ payloads (stored_in parts)) (m.reading now_disk))
+      → StandsForCount row (count_after (low_opening o) parts) (m.reading now_disk)
+      × StandsForLast row o.removed (o.messages ++ payloads (stored_in parts)) (m.reading now_disk))
   pub device : CountsEnd (Some end) (m.count disk) (m.count now_disk)

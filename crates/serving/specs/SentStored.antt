@@ -12,9 +12,10 @@ abbrev pub Climbs : ℕ → List Frame → Type 0
 Climbs n [] = Unit {0}
 Climbs n (f ∷ frames) = ((f.number ≡ n) ⊎ (f.number ≡ n + 1)) × Climbs f.number frames
 
--- Of these messages, which were found and stored and have the numbers from `first` on, High sent some in these frames, in
--- this order, and came to this past. These pairs were told to Low.
-pub record SentIsStored (row : SessionRow) (first : ℕ) (stored : List (List ℕ)) (sent : List Frame) (past : ProcessPast) (pairs : List (ℕ × ℕ)) : Type 0 where
+-- Of these messages, which were found and stored and have the numbers from `first` on, High sent some in these
+-- frames, in this order, and came to this past. These pairs were told to Low.
+pub record SentIsStored (row : SessionRow) (first : ℕ) (stored : List (List ℕ)) (sent : List Frame) (past : ProcessPast)
+    (pairs : List (ℕ × ℕ)) : Type 0 where
   -- each DATA carries the message of its number
   pub data_are : AllByRecursion (HasMessage first stored) sent
   -- but for the first, which the receiver may have, none is passed over, and none comes back behind the next one

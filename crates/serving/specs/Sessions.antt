@@ -61,20 +61,26 @@ OpensBy m row low high now_low now_high (Refused role why) =
     × (is_device why ≡ false → m.tells → refused_pump row (m.reading low) (m.reading high) ≡ Some (role, why))
 OpensBy m row low high now_low now_high NoDoor = m.tells → refused_pump row (m.reading low) (m.reading high) ≡ None
 OpensBy m row low high now_low now_high NoThread = m.tells → refused_pump row (m.reading low) (m.reading high) ≡ None
-OpensBy m row low high now_low now_high (Ended ends) = m.tells → refused_pump row (m.reading low) (m.reading high) ≡ None
+OpensBy m row low high now_low now_high (Ended ends) = m.tells → refused_pump row (m.reading low) (m.reading high)
+    ≡ None
 OpensBy m row low high now_low now_high Memory = Unit {0}
 
 -- How a session came to its end, by the causes of each, and what it left. `did` and `faults` are what its ports tell.
-pub record SessionComes {P K R L O S : Type 0} (did : P → List (PortsStep L R) → Type 0) (faults : P → ℕ) (m : Meaning S) (row : SessionRow) (low_side high_side now_low_side now_high_side : RelaySide P K)
+pub record SessionComes {P K R L O S : Type 0} (did : P → List (PortsStep L R) → Type 0) (faults : P
+    → ℕ) (m : Meaning S) (row : SessionRow) (low_side high_side now_low_side now_high_side : RelaySide P K)
     (tape now_tape : O) (low high now_low now_high : S) (end : SessionEnd) : Type 0 where
   pub opens : OpensBy m row low high now_low now_high end
-  pub wanting : end ≡ NoDoor → WantDoor (ports did faults low_side.ports now_low_side.ports) (ports did faults high_side.ports now_high_side.ports) row.low_port row.high_port
-  pub unstarted : end ≡ NoThread → OpensAndShuts (ports did faults low_side.ports now_low_side.ports) row.low_port × OpensAndShuts (ports did faults high_side.ports now_high_side.ports) row.high_port
+  pub wanting : end ≡ NoDoor → WantDoor (ports did faults low_side.ports now_low_side.ports)
+      (ports did faults high_side.ports now_high_side.ports) row.low_port row.high_port
+  pub unstarted : end ≡ NoThread → OpensAndShuts (ports did faults low_side.ports now_low_side.ports) row.low_port
+      × OpensAndShuts (ports did faults high_side.ports now_high_side.ports) row.high_port
   -- before the disks are opened nothing is done at either side, and before the workers run no clock is read, and
   -- nothing is written
   pub closed : is_opened end ≡ false → (now_low_side ≡ low_side) × (now_high_side ≡ high_side)
-  pub idle : has_run end ≡ false → (now_low_side.clock ≡ low_side.clock) × (now_high_side.clock ≡ high_side.clock) × (now_tape ≡ tape)
-  pub still : has_run end ≡ false → m.tells → (m.reading now_low ≡ m.reading low) × (m.reading now_high ≡ m.reading high)
+  pub idle : has_run end ≡ false → (now_low_side.clock ≡ low_side.clock) × (now_high_side.clock ≡ high_side.clock)
+      × (now_tape ≡ tape)
+  pub still : has_run end ≡ false → m.tells → (m.reading now_low ≡ m.reading low)
+      × (m.reading now_high ≡ m.reading high)
   pub counts : (m.count low ≤ m.count now_low) × (m.count high ≤ m.count now_high)
 
 -- ---- over two ends, which come back where workers had them ----

@@ -57,9 +57,12 @@ fn open_doors<P: Ports>(
     high_ports: &mut P,
     row: &SessionRow,
 ) -> Result<(P::Door, P::Door), PortsFault>
-    ensures low { IfOk result (λ doors. Grows (P.did low_ports.old) (P.did low_ports.new) (Listened row.now.low_port doors.0 ∷ []) × P.Door.port doors.0 row.now.low_port × P.Door.did doors.0 []) }
-    ensures high { IfOk result (λ doors. Grows (P.did high_ports.old) (P.did high_ports.new) (Listened row.now.high_port doors.1 ∷ []) × P.Door.port doors.1 row.now.high_port × P.Door.did doors.1 []) }
-    ensures wanting { OnErr result (WantDoor (ports P.did P.faults low_ports.old low_ports.new) (ports P.did P.faults high_ports.old high_ports.new) row.now.low_port row.now.high_port) }
+    ensures low { IfOk result (λ doors. Grows (P.did low_ports.old) (P.did low_ports.new)
+        (Listened row.now.low_port doors.0 ∷ []) × P.Door.port doors.0 row.now.low_port × P.Door.did doors.0 []) }
+    ensures high { IfOk result (λ doors. Grows (P.did high_ports.old) (P.did high_ports.new)
+        (Listened row.now.high_port doors.1 ∷ []) × P.Door.port doors.1 row.now.high_port × P.Door.did doors.1 []) }
+    ensures wanting { OnErr result (WantDoor (ports P.did P.faults low_ports.old low_ports.new)
+        (ports P.did P.faults high_ports.old high_ports.new) row.now.low_port row.now.high_port) }
 {
     let low = low_ports.listen(row.low_port)?;
     match high_ports.listen(row.high_port) {
@@ -126,16 +129,26 @@ where
     requires low_order { low_last low.process ≤ K.floor low_side.old.clock }
     requires high { HighReady D.told high.process high.store (H.stands high.ends) }
     requires high_order { high_last high.process ≤ K.floor high_side.old.clock }
-    ensures low { IfOk result.ends (λ ends. LowLent (doors P.Door.port P.Door.did P.Door.gives (links P.Link.gives P.Link.sent P.Link.faults)) D.told W.gives (end_tells L.stands L.shape L.place)
-        (side P.did P.faults K.reads low_side.old low_side.new) (O.written tape.old) (O.written tape.new) (O.faults tape.old) (O.faults tape.new)
+    ensures low { IfOk result.ends (λ ends.
+        LowLent (doors P.Door.port P.Door.did P.Door.gives (links P.Link.gives P.Link.sent P.Link.faults)) D.told
+        W.gives (end_tells L.stands L.shape L.place)
+        (side P.did P.faults K.reads low_side.old low_side.new) (O.written tape.old) (O.written tape.new)
+        (O.faults tape.old) (O.faults tape.new)
         row.now.low_port rounds low result.low ends.low) }
-    ensures high { IfOk result.ends (λ ends. HighLent (doors P.Door.port P.Door.did P.Door.gives (links P.Link.gives P.Link.sent P.Link.faults)) D.told (end_tells H.stands H.shape H.place)
+    ensures high { IfOk result.ends (λ ends.
+        HighLent (doors P.Door.port P.Door.did P.Door.gives (links P.Link.gives P.Link.sent P.Link.faults)) D.told
+        (end_tells H.stands H.shape H.place)
         (side P.did P.faults K.reads high_side.old high_side.new) row.now.high_port rounds high result.high ends.high) }
-    ensures wanting { IfErr result.ends (λ why. why ≡ NoDoor → WantDoor (ports P.did P.faults low_side.old.ports low_side.new.ports) (ports P.did P.faults high_side.old.ports high_side.new.ports) row.now.low_port row.now.high_port) }
-    ensures unstarted { IfErr result.ends (λ why. why ≡ NoThread → OpensAndShuts (ports P.did P.faults low_side.old.ports low_side.new.ports) row.now.low_port × OpensAndShuts (ports P.did P.faults high_side.old.ports high_side.new.ports) row.now.high_port) }
+    ensures wanting { IfErr result.ends (λ why. why ≡ NoDoor
+        → WantDoor (ports P.did P.faults low_side.old.ports low_side.new.ports)
+        (ports P.did P.faults high_side.old.ports high_side.new.ports) row.now.low_port row.now.high_port) }
+    ensures unstarted { IfErr result.ends (λ why. why ≡ NoThread
+        → OpensAndShuts (ports P.did P.faults low_side.old.ports low_side.new.ports) row.now.low_port
+        × OpensAndShuts (ports P.did P.faults high_side.old.ports high_side.new.ports) row.now.high_port) }
     ensures low_kept { OnErr result.ends (result.low ≡ low) }
     ensures high_kept { OnErr result.ends (result.high ≡ high) }
-    ensures unused { OnErr result.ends ((low_side.new.clock ≡ low_side.old.clock) × (high_side.new.clock ≡ high_side.old.clock) × (tape.new ≡ tape.old)) }
+    ensures unused { OnErr result.ends ((low_side.new.clock ≡ low_side.old.clock)
+        × (high_side.new.clock ≡ high_side.old.clock) × (tape.new ≡ tape.old)) }
 {
     let Ok((low_door, high_door)) = open_doors(&mut low_side.ports, &mut high_side.ports, row)
     else {

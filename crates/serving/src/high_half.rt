@@ -45,7 +45,9 @@ fn serve_high<T: Wait, R: Door, K: Clock, D: Disk, H: WaitHighEnd, V: Watch>(
 ) -> RoundsEnd
     requires ready { Ready D.told parts.old.process parts.old.store (H.stands parts.old.ends) }
     requires order { last_of parts.old.process ≤ K.floor clock.old }
-    ensures { HighRan (doors R.port R.did R.gives (links R.Link.gives R.Link.sent R.Link.faults)) D.told (end_tells H.stands H.shape H.place) (K.reads clock.old) (K.reads clock.new) rounds door.old door.new parts.old parts.new result }
+    ensures { HighRan (doors R.port R.did R.gives (links R.Link.gives R.Link.sent R.Link.faults)) D.told
+        (end_tells H.stands H.shape H.place) (K.reads clock.old) (K.reads clock.new) rounds door.old door.new parts.old
+        parts.new result }
 {
     high_rounds(
         rt,
@@ -61,9 +63,13 @@ fn serve_high<T: Wait, R: Door, K: Clock, D: Disk, H: WaitHighEnd, V: Watch>(
 
 impl<P: Ports, K: Clock, D: Disk, H: WaitHighEnd> ServesHigh<RelaySide<P, K>>
     for HighHalf<P, D, H> {
-    ghost can_serve = { λ v k. (is_some v.door ≡ true) × Ready D.told v.parts.process v.parts.store (H.stands v.parts.ends) × (last_of v.parts.process ≤ K.floor k.clock) };
+    ghost can_serve = { λ v k. (is_some v.door ≡ true)
+        × Ready D.told v.parts.process v.parts.store (H.stands v.parts.ends)
+        × (last_of v.parts.process ≤ K.floor k.clock) };
 
-    ghost served = { λ n v w k j. HighDone (doors P.Door.port P.Door.did P.Door.gives (links P.Link.gives P.Link.sent P.Link.faults)) D.told (end_tells H.stands H.shape H.place) (side P.did P.faults K.reads k j) n v.door w.door v.parts w.parts w.end };
+    ghost served = { λ n v w k j. HighDone (doors P.Door.port P.Door.did P.Door.gives (links P.Link.gives P.Link.sent
+        P.Link.faults)) D.told (end_tells H.stands H.shape H.place) (side P.did P.faults K.reads k j) n v.door w.door
+        v.parts w.parts w.end };
 
     fn serve<T: Wait, V: Watch>(
         &mut self,

@@ -16,7 +16,8 @@ use pump_link::Door;
 /// a life, that each line reads back and that a coarse session is told levels, is a script that replays to
 /// its own `low` lines, whatever any disks are found to hold.
 pub fn served_records_replay<P: Door>()
-    ensures { (opens : Openings) (row : SessionRow) (o : Opening) (stays : List (Stay P.Link)) → IsLawfulRow row → AreStays row o [] stays
+    ensures { (opens : Openings) (row : SessionRow) (o : Opening) (stays : List (Stay P.Link)) → IsLawfulRow row
+        → AreStays row o [] stays
         → AreMade row o (stayed [] stays) → AreReadable row o (stayed [] stays) → TellLevels row (stayed [] stays)
         → ReplaysToItself opens row o (stayed [] stays) }
 {}

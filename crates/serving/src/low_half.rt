@@ -51,8 +51,10 @@ fn serve_low<T: Wait, R: Door, K: Clock, W: Words, D: Disk, L: WaitLowEnd, O: Si
     requires ready { Ready D.told parts.old.process parts.old.store (L.stands parts.old.ends) }
     requires up { is_down parts.old.process ≡ false }
     requires order { last_of parts.old.process ≤ K.floor clock.old }
-    ensures { LowRan (doors R.port R.did R.gives (links R.Link.gives R.Link.sent R.Link.faults)) D.told W.gives (end_tells L.stands L.shape L.place) (K.reads clock.old) (K.reads clock.new)
-        (O.written tape.old) (O.written tape.new) (O.faults tape.old) (O.faults tape.new) rounds door.old door.new parts.old parts.new result }
+    ensures { LowRan (doors R.port R.did R.gives (links R.Link.gives R.Link.sent R.Link.faults)) D.told W.gives
+        (end_tells L.stands L.shape L.place) (K.reads clock.old) (K.reads clock.new)
+        (O.written tape.old) (O.written tape.new) (O.faults tape.old) (O.faults tape.new) rounds door.old door.new
+        parts.old parts.new result }
 {
     let next = parts.process.next();
     if write_opening(tape, parts.process.row(), next, parts.is_held).is_err() {
@@ -74,9 +76,13 @@ fn serve_low<T: Wait, R: Door, K: Clock, W: Words, D: Disk, L: WaitLowEnd, O: Si
 
 impl<P: Ports, K: Clock, W: Words, D: Disk, L: WaitLowEnd, O: Sink> ServesLow<RelaySide<P, K>, O>
     for LowHalf<P, W, D, L> {
-    ghost can_serve = { λ v k o. (is_some v.door ≡ true) × Ready D.told v.parts.process v.parts.store (L.stands v.parts.ends) × (is_down v.parts.process ≡ false) × (last_of v.parts.process ≤ K.floor k.clock) };
+    ghost can_serve = { λ v k o. (is_some v.door ≡ true)
+        × Ready D.told v.parts.process v.parts.store (L.stands v.parts.ends) × (is_down v.parts.process ≡ false)
+        × (last_of v.parts.process ≤ K.floor k.clock) };
 
-    ghost served = { λ n v w k j o t. LowDone (doors P.Door.port P.Door.did P.Door.gives (links P.Link.gives P.Link.sent P.Link.faults)) D.told W.gives (end_tells L.stands L.shape L.place) (side P.did P.faults K.reads k j)
+    ghost served = { λ n v w k j o t.
+        LowDone (doors P.Door.port P.Door.did P.Door.gives (links P.Link.gives P.Link.sent P.Link.faults)) D.told
+        W.gives (end_tells L.stands L.shape L.place) (side P.did P.faults K.reads k j)
         (O.written o) (O.written t) (O.faults o) (O.faults t) n v.door w.door v.parts w.parts w.end };
 
     fn serve<T: Wait, V: Watch>(

@@ -95,12 +95,16 @@ where
     requires averages { IsEndOf L.stands L.shape low_ends row.now }
     requires low_ends { L.stands low_ends new_low new_high }
     requires high_ends { (l : Low) → H.stands high_ends l new_high }
-    ensures ended { IfEndsBack result (λ ends low_end high_end. EndsAsDone (end_tells L.stands L.shape L.place) (end_tells H.stands H.shape H.place) row.now low_ends high_ends low_end high_end
-        (λ l h. (b : BothServed (doors P.Door.port P.Door.did P.Door.gives (links P.Link.gives P.Link.sent P.Link.faults)) D.told row.now rounds key
-        (side P.did P.faults K.reads low_side.old low_side.new) (side P.did P.faults K.reads high_side.old high_side.new) (O.written tape.old) (O.written tape.new) (O.faults tape.old) (O.faults tape.new)
+    ensures ended { IfEndsBack result (λ ends low_end high_end. EndsAsDone (end_tells L.stands L.shape L.place)
+        (end_tells H.stands H.shape H.place) row.now low_ends high_ends low_end high_end
+        (λ l h. (b : BothServed (doors P.Door.port P.Door.did P.Door.gives (links P.Link.gives P.Link.sent
+        P.Link.faults)) D.told row.now rounds key
+        (side P.did P.faults K.reads low_side.old low_side.new) (side P.did P.faults K.reads high_side.old
+        high_side.new) (O.written tape.old) (O.written tape.new) (O.faults tape.old) (O.faults tape.new)
         low high (low_in result) (high_in result) ends) × (b.l ≡ l) × (b.h ≡ h))) }
     ensures some_memory { end_in result ≡ SessionEnd.Memory → ⊥ }
-    ensures comes { SessionComes P.did P.faults D.told row.now low_side.old high_side.old low_side.new high_side.new tape.old tape.new low high (low_in result) (high_in result) (end_in result) }
+    ensures comes { SessionComes P.did P.faults D.told row.now low_side.old high_side.old low_side.new high_side.new
+        tape.old tape.new low high (low_in result) (high_in result) (end_in result) }
 {
     let opened = match open_pump_waiting(rt, low, high, row, &mut low_ends) {
         Ok(opened) => opened,
@@ -184,11 +188,14 @@ where
     requires place { low_place low_ring ≡ high_place high_ring }
     requires low_shape { low_shape low_ring ≡ shape_of_row row.now }
     requires high_shape { high_shape high_ring ≡ shape_of_row row.now }
-    ensures both { IfEnded result.end (λ ends. BothServed (doors P.Door.port P.Door.did P.Door.gives (links P.Link.gives P.Link.sent P.Link.faults)) D.told row.now rounds key
-        (side P.did P.faults K.reads low_side.old low_side.new) (side P.did P.faults K.reads high_side.old high_side.new) (O.written tape.old) (O.written tape.new) (O.faults tape.old) (O.faults tape.new)
+    ensures both { IfEnded result.end (λ ends. BothServed (doors P.Door.port P.Door.did P.Door.gives
+        (links P.Link.gives P.Link.sent P.Link.faults)) D.told row.now rounds key
+        (side P.did P.faults K.reads low_side.old low_side.new) (side P.did P.faults K.reads high_side.old
+        high_side.new) (O.written tape.old) (O.written tape.new) (O.faults tape.old) (O.faults tape.new)
         low high result.low result.high ends) }
     ensures some_memory { result.end ≡ SessionEnd.Memory → ⊥ }
-    ensures comes { SessionComes P.did P.faults D.told row.now low_side.old high_side.old low_side.new high_side.new tape.old tape.new low high result.low result.high result.end }
+    ensures comes { SessionComes P.did P.faults D.told row.now low_side.old high_side.old low_side.new high_side.new
+        tape.old tape.new low high result.low result.high result.end }
 {
     let low_end = WatchedLow {
         ends: Calm(low_ring),
@@ -233,11 +240,11 @@ where
 /// draws its words from the stream of the key. Neither disk is formatted. The workers have the two ends of one
 /// passage, which are joined again when both have ended.
 ///
-/// Both disks come back, and both doors are shut, however it ends. `Memory`, `Refused`, `NoDoor` and
-/// `NoThread` come before anything is written and before a clock is read, and leave what the disks hold: `Refused` for the
-/// first cause in the order of refusals, or where a call of that disk failed, and `NoDoor` only where the
-/// count of the low side's ports rose, or else that of the high side's. Otherwise both workers ended;
-/// `docs/design.md`, "Serving", has the rules of each.
+/// Both disks come back, and both doors are shut, however it ends. `Memory`, `Refused`, `NoDoor`
+/// and `NoThread` come before anything is written and before a clock is read, and leave what the
+/// disks hold: `Refused` for the first cause in the order of refusals, or where a call of that disk
+/// failed, and `NoDoor` only where the count of the low side's ports rose, or else that of the high
+/// side's. Otherwise both workers ended; `docs/design.md`, "Serving", has the rules of each.
 pub fn serve_session<
     T: Threads + Wait + Sync,
     P: Ports + Send,
@@ -263,11 +270,14 @@ where
     P::Door: Send,
     requires lawful { IsLawfulRow row.now }
     // The two workers, at the two ends of one passage.
-    ensures both { IfEnded result.end (λ ends. BothServed (doors P.Door.port P.Door.did P.Door.gives (links P.Link.gives P.Link.sent P.Link.faults)) D.told row.now rounds key
-        (side P.did P.faults K.reads low_side.old low_side.new) (side P.did P.faults K.reads high_side.old high_side.new) (O.written tape.old) (O.written tape.new) (O.faults tape.old) (O.faults tape.new)
+    ensures both { IfEnded result.end (λ ends. BothServed (doors P.Door.port P.Door.did P.Door.gives
+        (links P.Link.gives P.Link.sent P.Link.faults)) D.told row.now rounds key
+        (side P.did P.faults K.reads low_side.old low_side.new) (side P.did P.faults K.reads high_side.old
+        high_side.new) (O.written tape.old) (O.written tape.new) (O.faults tape.old) (O.faults tape.new)
         low high result.low result.high ends) }
     // Each end by its causes, and what it leaves.
-    ensures comes { SessionComes P.did P.faults D.told row.now low_side.old high_side.old low_side.new high_side.new tape.old tape.new low high result.low result.high result.end }
+    ensures comes { SessionComes P.did P.faults D.told row.now low_side.old high_side.old low_side.new high_side.new
+        tape.old tape.new low high result.low result.high result.end }
 {
     let Ok(mut passage) = RingPassage::new(alloc, row) else {
         return Served {

@@ -6,7 +6,8 @@ ghost use Rattle.pump_frame.specs.Rows.{IsLawfulRow};
 ghost use Rattle.stable_buffer.specs.Low.{IsLowReady, low_count, low_row};
 ghost use Rattle.stable_buffer.specs.High.{IsHighReady, high_count};
 ghost use Rattle.low_process.specs.Ends.{number_offered, StandsFitting};
-ghost use Rattle.low_process.specs.Looks.{IsHand, opening_of, last_of as low_last, next_of, row_of as low_row_of, hand_of, is_down};
+ghost use Rattle.low_process.specs.Looks.{IsHand, opening_of, last_of as low_last, next_of, row_of as low_row_of};
+ghost use Rattle.low_process.specs.Looks.{hand_of, is_down};
 ghost use Rattle.low_process.specs.Ready.{Ready as LowReady};
 ghost use Rattle.high_process.specs.Ends.{StandsFitting as HighFitting};
 ghost use Rattle.high_process.specs.Looks.{IsHand as IsHighHand, StandsFor};
@@ -54,7 +55,8 @@ pub fn start_low<D: Disk, L: WaitLowEnd>(
     ensures store { result.store ≡ store }
     ensures kept { result.ends ≡ ends }
     // The process fits all that the end stands for and that the next message may come behind.
-    ensures fits { (l : Low) (h : High) → L.stands ends l h → ComesNext l.forwarded (number_offered next hand) → StandsFitting (L.stands result.ends) result.process l h }
+    ensures fits { (l : Low) (h : High) → L.stands ends l h → ComesNext l.forwarded (number_offered next hand)
+        → StandsFitting (L.stands result.ends) result.process l h }
 {
     let is_held = hand.is_some();
     let process = LowProcess::open(row, next, hand);

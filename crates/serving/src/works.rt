@@ -64,7 +64,8 @@ struct HighWork<'h, 'a, 'w, S, A, V> {
 impl<S: ServesLow<A, O>, A, O, V: Watch> Work for LowWork<'_, '_, '_, '_, S, A, O, V> {
     ghost can_run = { λ v. S.can_serve v.half.now v.side.now v.tape.now };
 
-    ghost ran = { λ v w. (w.half.ghost_name ≡ v.half.ghost_name) × (w.side.ghost_name ≡ v.side.ghost_name) × (w.tape.ghost_name ≡ v.tape.ghost_name)
+    ghost ran = { λ v w. (w.half.ghost_name ≡ v.half.ghost_name) × (w.side.ghost_name ≡ v.side.ghost_name)
+        × (w.tape.ghost_name ≡ v.tape.ghost_name)
         × S.served v.rounds v.half.now w.half.now v.side.now w.side.now v.tape.now w.tape.now };
 
     fn run<R: Wait>(&mut self, rt: &R) {
@@ -107,7 +108,8 @@ pub fn serve_halves<
     requires high { T.can_serve high.old high_side.old }
     ensures low { OnOk result (S.served rounds low.old low.new low_side.old low_side.new tape.old tape.new) }
     ensures high { OnOk result (T.served rounds high.old high.new high_side.old high_side.new) }
-    ensures kept { OnErr result ((low.new ≡ low.old) × (low_side.new ≡ low_side.old) × (tape.new ≡ tape.old) × (high.new ≡ high.old) × (high_side.new ≡ high_side.old)) }
+    ensures kept { OnErr result ((low.new ≡ low.old) × (low_side.new ≡ low_side.old) × (tape.new ≡ tape.old)
+        × (high.new ≡ high.old) × (high_side.new ≡ high_side.old)) }
 {
     let mut low_work = LowWork {
         half: low,

@@ -1,6 +1,7 @@
 -- The rows of a document, or the first thing that is wrong with it. The order in which things are
 -- looked at is the order of the refusals.
-use Rattle.std.specs.Prelude.{ℕ, ◌+◌, suc, min, nat_lt, not, ◌&&◌, is_some, Bool, true, if◌then◌else◌, List, [], ◌∷◌, ◌++◌, length, Option, None, Some, Result, Ok, Err}
+use Rattle.std.specs.Prelude.{ℕ, ◌+◌, suc, min, nat_lt, not, ◌&&◌, is_some, Bool, true, if◌then◌else◌, List, [], ◌∷◌}
+use Rattle.std.specs.Prelude.{◌++◌, length, Option, None, Some, Result, Ok, Err}
 use Rattle.std.specs.Str.{is_utf8}
 use Rattle.pump_frame.specs.declared.row.SessionRow.{SessionRow}
 use Rattle.pump_frame.specs.declared.row.RowKey.TheVariants.{Session}

@@ -2,9 +2,11 @@
 use Rattle.std.specs.Prelude.{ℕ, Option, None, Some}
 use Rattle.pump_frame.specs.Rows.{least_capacity, greatest_capacity}
 use Rattle.pump_frame.specs.declared.row.RowKey.{RowKey}
-use Rattle.pump_frame.specs.declared.row.RowKey.TheVariants.{Id, Capacity, Message, Window, Start, Longest, Resend, LowPort, HighPort}
+use Rattle.pump_frame.specs.declared.row.RowKey.TheVariants.{Id, Capacity, Message, Window, Start, Longest, Resend}
+use Rattle.pump_frame.specs.declared.row.RowKey.TheVariants.{LowPort, HighPort}
 use Rattle.session_table.specs.declared.fault.TableFault.{TableFault}
-use Rattle.session_table.specs.declared.fault.TableFault.TheVariants.{NotToml, MissingKey, UnknownKey, OutOfRange, Name, TwiceId, TwicePort, TooMany, Memory}
+use Rattle.session_table.specs.declared.fault.TableFault.TheVariants.{NotToml, MissingKey, UnknownKey, OutOfRange, Name}
+use Rattle.session_table.specs.declared.fault.TableFault.TheVariants.{TwiceId, TwicePort, TooMany, Memory}
 
 -- a refusal's number
 abbrev pub fault_number : TableFault → ℕ

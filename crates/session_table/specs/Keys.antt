@@ -3,7 +3,8 @@ use Rattle.std.specs.Prelude.{ℕ, ◌||◌, Bool, false, not, List, [], ◌∷�
 use Rattle.std.specs.Str.{bytes_eq}
 use Rattle.std.specs.List.{list_any}
 use Rattle.pump_frame.specs.declared.row.RowKey.{RowKey}
-use Rattle.pump_frame.specs.declared.row.RowKey.TheVariants.{Session, Id, Low, High, Capacity, Message, Window, Start, Longest, Resend, LowPort, HighPort, Coarse}
+use Rattle.pump_frame.specs.declared.row.RowKey.TheVariants.{Session, Id, Low, High, Capacity, Message, Window, Start}
+use Rattle.pump_frame.specs.declared.row.RowKey.TheVariants.{Longest, Resend, LowPort, HighPort, Coarse}
 use Rattle.toml.specs.Data.{Members, no_members, member}
 
 -- a key's name in a document

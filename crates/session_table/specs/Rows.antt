@@ -4,7 +4,8 @@ use Rattle.std.specs.List.{list_any}
 use Rattle.pump_frame.specs.Rows.{least_capacity, first_bad}
 use Rattle.pump_frame.specs.declared.row.SessionRow.{SessionRow}
 use Rattle.pump_frame.specs.declared.row.RowKey.{RowKey}
-use Rattle.pump_frame.specs.declared.row.RowKey.TheVariants.{Id, Low, High, Capacity, Message, Window, Start, Longest, Resend, LowPort, HighPort, Coarse}
+use Rattle.pump_frame.specs.declared.row.RowKey.TheVariants.{Id, Low, High, Capacity, Message, Window, Start, Longest}
+use Rattle.pump_frame.specs.declared.row.RowKey.TheVariants.{Resend, LowPort, HighPort, Coarse}
 use Rattle.session_table.specs.declared.fault.TableFault.{TableFault}
 use Rattle.session_table.specs.declared.fault.TableFault.TheVariants.{UnknownKey, OutOfRange, TwiceId, TwicePort}
 use Rattle.session_table.specs.Keys.{row_keys, has_other}
@@ -14,7 +15,20 @@ use Rattle.toml.specs.Data.{Members}
 -- A row of these three. Its numbers are some that are in their ranges; the document's own replace
 -- them one by one.
 abbrev pub begun : ℕ → List ℕ → List ℕ → SessionRow
-begun id low high = record { id = id; low = low; high = high; capacity = least_capacity; message = 1; window = 1; start = 0; longest = 0; resend = 1; low_port = 1; high_port = 1; coarse = false }
+begun id low high = record {
+  id = id;
+  low = low;
+  high = high;
+  capacity = least_capacity;
+  message = 1;
+  window = 1;
+  start = 0;
+  longest = 0;
+  resend = 1;
+  low_port = 1;
+  high_port = 1;
+  coarse = false;
+}
 
 -- the row with this number at this key
 abbrev pub with_number : SessionRow → RowKey → ℕ → SessionRow

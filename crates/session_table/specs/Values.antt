@@ -1,6 +1,7 @@
 -- What stands at one key of one row: a number, a name, a truth value, or the first thing that is wrong there. A row
 -- is told by its place, counted from 1.
-use Rattle.std.specs.Prelude.{ℕ, ℤ, pos, int_le, nat_abs, nat_le, nat_lt, ◌&&◌, Bool, false, if◌then◌else◌, List, length, Option, None, Some, Result, Ok, Err}
+use Rattle.std.specs.Prelude.{ℕ, ℤ, pos, int_le, nat_abs, nat_le, nat_lt, ◌&&◌, Bool, false, if◌then◌else◌, List}
+use Rattle.std.specs.Prelude.{length, Option, None, Some, Result, Ok, Err}
 use Rattle.std.specs.List.{list_all}
 use Rattle.pump_frame.specs.Names.{is_name_byte}
 use Rattle.pump_frame.specs.declared.row.RowKey.{RowKey}
@@ -38,10 +39,12 @@ name_of row key (Some text) = if is_name text then Ok text else Err (Name row ke
 
 -- the number at a key, and the name at a key
 abbrev pub whole_at : ℕ → RowKey → ℕ → ℕ → Members → Result ℕ TableFault
-whole_at row key least greatest members = required row key (get_member (key_name key) members) >>= λ value. whole_of row key least greatest (as_integer value)
+whole_at row key least greatest members = required row key (get_member (key_name key) members) >>= λ value.
+    whole_of row key least greatest (as_integer value)
 
 abbrev pub name_at : ℕ → RowKey → Members → Result (List ℕ) TableFault
-name_at row key members = required row key (get_member (key_name key) members) >>= λ value. name_of row key (as_str value)
+name_at row key members = required row key (get_member (key_name key) members) >>= λ value.
+    name_of row key (as_str value)
 
 -- a truth value; where none has to stand and nothing does, false
 abbrev pub truth_of : ℕ → RowKey → Option Bool → Result Bool TableFault

@@ -3,7 +3,8 @@ ghost use Rattle.std.specs.Prelude.{◌≡◌, ◌≢◌, ◌<◌, IfOk};
 ghost use Rattle.std.specs.List.{All};
 ghost use Rattle.pump_frame.specs.Rows.{IsLawfulRow};
 ghost use Rattle.toml.specs.View.{table_view};
-ghost use Rattle.session_table.specs.Rows.{begun, with_number, filled, numbered, named, ported, row_of, has_id, has_port, placed};
+ghost use Rattle.session_table.specs.Rows.{begun, with_number, filled, numbered, named, ported, row_of, has_id};
+ghost use Rattle.session_table.specs.Rows.{has_port, placed};
 ghost use Rattle.session_table.specs.Tables.{AreApart};
 
 use crate::TableFault;

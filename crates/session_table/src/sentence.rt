@@ -101,7 +101,8 @@ fn write_of_row<W: fmt::Write>(f: &mut fmt::Formatter<W>, fault: &TableFault) ->
             "the port {port}, which it or an earlier row has already; give it ports of its own"
         ),
         TableFault::UnknownKey { .. } => f.write_str(
-            "a key that is none of id, low, high, capacity, message, window, start, longest, resend, low_port, high_port and coarse; take it out or mend its name",
+            "a key that is none of id, low, high, capacity, message, window, start, longest, resend, low_port, \
+            high_port and coarse; take it out or mend its name",
         ),
         _ => Ok(()),
     }

@@ -31,7 +31,7 @@ module _ (at n : ℕ) (old new : List ℕ) (torn : Torn at n old new) where
   -- a write inside the register keeps what is outside
   pub same_outside : 32 ≤ at → at + n ≤ 80 → 80 ≤ length old → SameOutside old new
   same_outside from to size = record {
-    front = sym (take-take 32 at new from) ∙ ap (λ (l : List ℕ). take 32 l) torn.before ∙ take-take 32 at old from;
+    prefix = sym (take-take 32 at new from) ∙ ap (λ (l : List ℕ). take 32 l) torn.before ∙ take-take 32 at old from;
     rest =
         let e : at + n + (80 - (at + n)) ≡ 80 = omega arith in
         let there : drop (at + n + (80 - (at + n))) new ≡ drop (at + n + (80 - (at + n))) old =

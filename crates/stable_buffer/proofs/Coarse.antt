@@ -11,8 +11,8 @@ module _ (row : SessionRow) where
   abbrev made : SessionRow
   made = record row { coarse = true }
 
-  header : (role : ℕ) (front : List ℕ) → HasHeader row role front → HasHeader made role front
-  header role front h = record { version = h.version; known = h.known; mark = h.mark; numbers = h.numbers }
+  header : (role : ℕ) (prefix : List ℕ) → HasHeader row role prefix → HasHeader made role prefix
+  header role prefix h = record { version = h.version; known = h.known; mark = h.mark; numbers = h.numbers }
 
   slot : (n : ℕ) (message disk : List ℕ) → InSlot row n message disk → InSlot made n message disk
   slot n message disk s = record { fits = s.fits; bytes = s.bytes }

@@ -49,10 +49,10 @@ in_slot row n l payload disk fits size is spells message = record {
       let k = length payload in
       let e : suc (suc k) ≡ 2 + k = omega arith in
       let there : take (2 + k) (drop s disk) ≡ take 2 (drop s disk) ++ take k (drop 2 (drop s disk)) = subst (λ j. take j (drop s disk) ≡ take 2 (drop s disk) ++ take k (drop 2 (drop s disk))) e (take_two k (drop s disk)) in
-      let front : take 2 (drop s disk) ≡ big_bytes 2 k = sym spells ∙ ap (λ j. big_bytes 2 j) (sym size) in
+      let prefix : take 2 (drop s disk) ≡ big_bytes 2 k = sym spells ∙ ap (λ j. big_bytes 2 j) (sym size) in
       let at : drop 2 (drop s disk) ≡ drop (s + 2) disk = drop-drop 2 s disk in
       let back : take k (drop 2 (drop s disk)) ≡ payload = (λ i. take ((size ∙ is) i) (at i)) ∙ sym message in
-      there ∙ (λ i. front i ++ back i);
+      there ∙ (λ i. prefix i ++ back i);
 }
 
 pub taken_length : (l k : ℕ) (into rest payload : List ℕ) → payload ≡ take l (into ++ rest) → length into ≡ k → k ≡ l → length payload ≡ l

@@ -59,10 +59,10 @@ module _ {D : Type 0} (m : Meaning D) where
 
 -- ---- the bytes of a disk that is begun ----
 
-pub begun_bytes : (row : SessionRow) (role first second k : ℕ) (front clear mid new : List ℕ) → front ≡ header_of row role first second → clear ≡ 0 ∷ 0 ∷ 0 ∷ 0 ∷ [] → IsWritten clear 4 (take 76 (drop 4 front)) mid
+pub begun_bytes : (row : SessionRow) (role first second k : ℕ) (prefix clear mid new : List ℕ) → prefix ≡ header_of row role first second → clear ≡ 0 ∷ 0 ∷ 0 ∷ 0 ∷ [] → IsWritten clear 4 (take 76 (drop 4 prefix)) mid
     → new ≡ mid ++ replicate k 0 → marked new ≡ header_of row role first second ++ replicate k 0
 unfolding header_of
-begun_bytes row role first second k front clear mid new is zeros wrote filled =
+begun_bytes row role first second k prefix clear mid new is zeros wrote filled =
     let there : new ≡ (0 ∷ 0 ∷ 0 ∷ 0 ∷ []) ++ drop 4 (header_of row role first second) ++ replicate k 0 =
     filled ∙ ap (λ (l : List ℕ). l ++ replicate k 0) (wrote ∙ (λ i. take 4 (zeros i) ++ take 76 (drop 4 (is i)) ++ drop (4 + length (take 76 (drop 4 (is i)))) (zeros i))) in
     ap marked there

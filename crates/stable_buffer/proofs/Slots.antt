@@ -60,7 +60,7 @@ slot_beside row k E n message old new some fits other torn was = record { fits =
 pub slot_torn : (row : SessionRow) (E b : ℕ) (messages : List (List ℕ)) (n : ℕ) (old new : List ℕ) → 1 ≤ row.capacity → n ≤ 2 + row.message → E + 1 ≤ b + row.capacity
     → LowStands row E b messages old → Torn (slot_of row E) n old new → LowStands row E b messages new
 slot_torn row E b messages n old new some fits free stands torn = record {
-  header = subst (HasHeader row 76) (sym front) stands.header;
+  header = subst (HasHeader row 76) (sym prefix) stands.header;
   size = omega (arith, torn.no_shorter, torn.no_longer, stands.size, slot_within);
   value = value_beside at n old new torn (omega arith) ∙ stands.value;
   kept = stands.kept;
@@ -74,8 +74,8 @@ slot_torn row E b messages n old new some fits free stands torn = record {
     at : ℕ
     at = slot_of row E
 
-    front : take 32 new ≡ take 32 old
-    front = sym (take-take 32 at new (omega arith)) ∙ ap (λ (l : List ℕ). take 32 l) torn.before ∙ take-take 32 at old (omega arith)
+    prefix : take 32 new ≡ take 32 old
+    prefix = sym (take-take 32 at new (omega arith)) ∙ ap (λ (l : List ℕ). take 32 l) torn.before ∙ take-take 32 at old (omega arith)
 
     slot_within : slot_of row E + w ≤ low_size row
     slot_within = omega (arith, inside w (E % row.capacity) row.capacity (omega arith))
@@ -104,7 +104,7 @@ slot_stays row n message old new same was = record {
 -- the register is written, and its value stays
 pub register_stands : (row : SessionRow) (E b : ℕ) (messages : List (List ℕ)) (old new : List ℕ) → SameOutside old new → value_of new ≡ value_of old → LowStands row E b messages old → LowStands row E b messages new
 register_stands row E b messages old new same value stands = record {
-  header = subst (HasHeader row 76) (sym same.front) stands.header;
+  header = subst (HasHeader row 76) (sym same.prefix) stands.header;
   size = same.size ∙ stands.size;
   value = value ∙ stands.value;
   kept = stands.kept;
@@ -119,7 +119,7 @@ register_stands_on row old new keeps = record { same = λ E b messages free stan
 pub register_gains : (row : SessionRow) (E b : ℕ) (messages : List (List ℕ)) (message old new : List ℕ) → E + 1 ≤ b + row.capacity → SameOutside old new → value_of new ≡ (E + 1, 0) → InSlot row E message old
     → LowStands row E b messages old → LowStands row (E + 1) b (messages ++ message ∷ []) new
 register_gains row E b messages message old new free same value has stands = record {
-  header = subst (HasHeader row 76) (sym same.front) stands.header;
+  header = subst (HasHeader row 76) (sym same.prefix) stands.header;
   size = same.size ∙ stands.size;
   value = value;
   kept = free;
@@ -206,7 +206,7 @@ with_room row E b (m ∷ messages) disk some stands = record {
 }
 
 high_stays : (row : SessionRow) (B C : ℕ) (old new : List ℕ) → SameOutside old new → value_of new ≡ (C, 0) → HighStands row B old → HighStands row C new
-high_stays row B C old new same value stands = record { header = subst (HasHeader row 72) (sym same.front) stands.header; size = same.size ∙ stands.size; value = value }
+high_stays row B C old new same value stands = record { header = subst (HasHeader row 72) (sym same.prefix) stands.header; size = same.size ∙ stands.size; value = value }
 
 pub high_keeps : (old new : List ℕ) → KeepsValue old new → MayRemove old new
 high_keeps old new keeps = record { either = λ row B stands. inl (high_stays row B B old new keeps.outside (keeps.value ∙ stands.value) stands) }

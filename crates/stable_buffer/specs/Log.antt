@@ -1,5 +1,6 @@
 -- What a receiver's disk stands for.
-use Rattle.std.specs.Prelude.{◌≡◌, ℕ, zero, suc, ◌+◌, ◌-◌, ◌≤◌, ◌==◌, ◌&&◌, nat_le, Bool, List, [], ◌∷◌, length, take, drop}
+use Rattle.std.specs.Prelude.{◌≡◌, ℕ, zero, suc, ◌+◌, ◌-◌, ◌≤◌, ◌==◌, ◌&&◌, nat_le, Bool, List, [], ◌∷◌, length, take}
+use Rattle.std.specs.Prelude.{drop}
 use Rattle.pump_frame.specs.declared.row.SessionRow.{SessionRow}
 use Rattle.stable_buffer.specs.Numbers.{length_at}
 use Rattle.stable_buffer.specs.Register.{value_of}
@@ -9,14 +10,16 @@ use Rattle.stable_buffer.specs.Stands.{HasHeader}
 abbrev pub Records : ℕ → List (List ℕ) → List ℕ → Type 0
 Records most [] bytes = length bytes ≡ 0
 Records most (m ∷ ms) bytes =
-    (2 + length m ≤ length bytes) × (length_at bytes 0 ≡ length m) × (length m ≤ most) × (take (length m) (drop 2 bytes) ≡ m)
+    (2 + length m ≤ length bytes) × (length_at bytes 0 ≡ length m) × (length m ≤ most)
+    × (take (length m) (drop 2 bytes) ≡ m)
     × Records most ms (drop (2 + length m) bytes)
 
 -- some n records fill the bytes exactly
 abbrev pub is_log : ℕ → ℕ → List ℕ → Bool
 is_log most zero bytes = length bytes == 0
 is_log most (suc n) bytes =
-    nat_le (2 + length_at bytes 0) (length bytes) && nat_le (length_at bytes 0) most && is_log most n (drop (2 + length_at bytes 0) bytes)
+    nat_le (2 + length_at bytes 0) (length bytes) && nat_le (length_at bytes 0) most && is_log most n
+    (drop (2 + length_at bytes 0) bytes)
 
 -- the bytes from 80 to an end
 abbrev pub log_of : ℕ → List ℕ → List ℕ

@@ -1,5 +1,6 @@
 -- A register of two numbers on bytes 32 to 79 of a disk: a selector, and two cells of which it selects one.
-use Rattle.std.specs.Prelude.{◌≡◌, ◌⊎◌, ℕ, ◌+◌, ◌-◌, ◌*◌, ◌%◌, ◌≤◌, Bool, true, List, length, take, drop, slice_index, Result, Ok, Err}
+use Rattle.std.specs.Prelude.{◌≡◌, ◌⊎◌, ℕ, ◌+◌, ◌-◌, ◌*◌, ◌%◌, ◌≤◌, Bool, true, List, length, take, drop, slice_index}
+use Rattle.std.specs.Prelude.{Result, Ok, Err}
 use Rattle.stable_buffer.specs.Numbers.{number_at}
 use Rattle.disk_model.specs.Disk.{Meaning, Each}
 use Rattle.disk_model.specs.declared.disk.DiskFault.{DiskFault}
@@ -23,7 +24,7 @@ value_of disk = cell_at disk (place_of (selected disk))
 
 -- the same outside of the register
 pub record SameOutside (old new : List ℕ) : Type 0 where
-  pub front : take 32 new ≡ take 32 old
+  pub prefix : take 32 new ≡ take 32 old
   pub rest : drop 80 new ≡ drop 80 old
   pub size : length new ≡ length old
 

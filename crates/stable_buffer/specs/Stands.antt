@@ -1,5 +1,6 @@
 -- What the disks of a session stand for.
-use Rattle.std.specs.Prelude.{◌≡◌, ◌⊎◌, ℕ, ◌+◌, ◌*◌, ◌%◌, ◌<◌, ◌≤◌, ◌==◌, ◌&&◌, ◌||◌, nat_le, Bool, true, List, [], ◌∷◌, ◌++◌, length, take, drop, slice_index_or}
+use Rattle.std.specs.Prelude.{◌≡◌, ◌⊎◌, ℕ, ◌+◌, ◌*◌, ◌%◌, ◌<◌, ◌≤◌, ◌==◌, ◌&&◌, ◌||◌, nat_le, Bool, true, List, [], ◌∷◌}
+use Rattle.std.specs.Prelude.{◌++◌, length, take, drop, slice_index_or}
 use Rattle.byteorder.specs.Endian.{big_bytes}
 use Rattle.pump_frame.specs.declared.row.SessionRow.{SessionRow}
 use Rattle.stable_buffer.specs.Register.{value_of}
@@ -17,11 +18,11 @@ abbrev pub is_version : SessionRow → ℕ → Bool
 is_version row version = version == newest_version || (version == 1 && nat_le row.capacity first_version_capacity)
 
 -- the first bytes of a disk: the mark, the role and the version, and the row's three numbers
-pub record HasHeader (row : SessionRow) (role : ℕ) (front : List ℕ) : Type 0 where
+pub record HasHeader (row : SessionRow) (role : ℕ) (prefix : List ℕ) : Type 0 where
   pub version : ℕ
   pub known : is_version row version ≡ true
-  pub mark : take 6 front ≡ 78 ∷ 80 ∷ 68 ∷ 49 ∷ role ∷ version ∷ []
-  pub numbers : take 12 (drop 8 front) ≡ big_bytes 4 row.id ++ big_bytes 4 row.capacity ++ big_bytes 4 row.message
+  pub mark : take 6 prefix ≡ 78 ∷ 80 ∷ 68 ∷ 49 ∷ role ∷ version ∷ []
+  pub numbers : take 12 (drop 8 prefix) ≡ big_bytes 4 row.id ++ big_bytes 4 row.capacity ++ big_bytes 4 row.message
 
 -- a message as it stands on a disk: its length in two bytes, and its bytes
 abbrev pub spelled : List ℕ → List ℕ
@@ -69,7 +70,8 @@ pub record Gains (row : SessionRow) (message : List ℕ) (old new : List ℕ) : 
 
 -- it stands for this count and these messages, or for one message more
 abbrev pub StandsOrGains : SessionRow → ℕ → ℕ → List (List ℕ) → List ℕ → List ℕ → Type 0
-StandsOrGains row E b messages message disk = LowStands row E b messages disk ⊎ LowStands row (E + 1) b (messages ++ message ∷ []) disk
+StandsOrGains row E b messages message disk = LowStands row E b messages disk
+    ⊎ LowStands row (E + 1) b (messages ++ message ∷ []) disk
 
 -- a high disk stands for the count B
 pub record HighStands (row : SessionRow) (B : ℕ) (disk : List ℕ) : Type 0 where

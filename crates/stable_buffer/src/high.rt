@@ -15,7 +15,8 @@ pub struct HighStore<D> {
 
 impl<D: Disk> HighStore<D> {
     ghost use Rattle.stable_buffer.specs.Register.{IsReady, register_disk, register_value};
-    ghost use Rattle.stable_buffer.specs.High.{IsHighReady, StandsForRemoved, high_disk, high_count, high_is_open, removal_end};
+    ghost use Rattle.stable_buffer.specs.High.{IsHighReady, StandsForRemoved, high_disk, high_count, high_is_open};
+    ghost use Rattle.stable_buffer.specs.High.{removal_end};
 
     /// A store over a register, whose disk stands for a count of at most 2^48.
     pub fn over(register: Register<D>) -> HighStore<D>

@@ -3,7 +3,8 @@ ghost use Rattle.std.specs.Prelude.{◌≡◌, ℕ, List, ◌+◌, ◌^◌, ◌<
 ghost use Rattle.disk_model.specs.Disk.{Moves, Same, Settled, Leaves, Answers};
 ghost use Rattle.pump_frame.specs.Rows.{IsLawfulRow};
 ghost use Rattle.stable_buffer.specs.Numbers.{length_at, message_at};
-ghost use Rattle.stable_buffer.specs.Stands.{slot_of, slot_end, low_size, InSlot, LowStands, StandsOn, MayGain, Gains, StandsOrGains};
+ghost use Rattle.stable_buffer.specs.Stands.{slot_of, slot_end, low_size, InSlot, LowStands, StandsOn, MayGain, Gains};
+ghost use Rattle.stable_buffer.specs.Stands.{StandsOrGains};
 
 use crate::{Device, Register};
 use disk_model::Disk;
@@ -19,7 +20,8 @@ pub struct LowStore<D> {
 impl<D: Disk> LowStore<D> {
     ghost use Rattle.std.specs.Borrow.{sem, Lends};
     ghost use Rattle.stable_buffer.specs.contracts.low.LowStore.{the_row};
-    ghost use Rattle.stable_buffer.specs.Low.{IsLowReady, HasRanges, StandsForCount, low_disk, low_with_disk, low_made_coarse, low_count, low_row, low_is_open};
+    ghost use Rattle.stable_buffer.specs.Low.{IsLowReady, HasRanges, StandsForCount, low_disk, low_with_disk};
+    ghost use Rattle.stable_buffer.specs.Low.{low_made_coarse, low_count, low_row, low_is_open};
     ghost use Rattle.stable_buffer.specs.Register.{IsReady, register_disk, register_value};
 
     /// A store over a register, whose disk stands for a count of at most 2^48 and some messages.

@@ -5,7 +5,8 @@ ghost use Rattle.disk_model.specs.declared.name.Role.TheVariants.{Recv};
 ghost use Rattle.byteorder.specs.Endian.{big_bytes};
 ghost use Rattle.pump_frame.specs.Rows.{IsLawfulRow};
 ghost use Rattle.stable_buffer.specs.Stands.{is_version};
-ghost use Rattle.stable_buffer.specs.Format.{header_of, role_byte, second_of, size_of, bare_bytes, new_bytes, FormatStands};
+ghost use Rattle.stable_buffer.specs.Format.{header_of, role_byte, second_of, size_of, bare_bytes, new_bytes};
+ghost use Rattle.stable_buffer.specs.Format.{FormatStands};
 ghost use Rattle.stable_buffer.specs.Making.{marked, HasZeros, IsNone, IsNoneOr, KeepsFirst, LeavesFrom};
 
 use crate::Device;
@@ -78,11 +79,11 @@ fn numbers(row: &SessionRow) -> [u8; 12]
 fn header(row: &SessionRow, role: Role, first: u64, second: u64) -> [u8; 80]
     ensures { result ≡ header_of row.now (role_byte role) first second }
 {
-    let mut front = [0; 80];
-    front[..6].copy_from_slice(&[b'N', b'P', b'D', b'1', letter(role), VERSION]);
-    front[8..20].copy_from_slice(&numbers(row));
-    front[48..64].copy_from_slice(&cell_of(first, second));
-    front
+    let mut prefix = [0; 80];
+    prefix[..6].copy_from_slice(&[b'N', b'P', b'D', b'1', letter(role), VERSION]);
+    prefix[8..20].copy_from_slice(&numbers(row));
+    prefix[48..64].copy_from_slice(&cell_of(first, second));
+    prefix
 }
 
 // Writes zeros from the end of the disk on, to another end.
@@ -124,8 +125,8 @@ pub fn format<D: Disk>(disk: &mut D, row: &SessionRow, role: Role, count: u64) -
         disk.old disk.new result }
     ensures device { IfErr result (λ e. e.faults ≡ D.told.count disk.new) }
 {
-    let front = header(row, role, count, second(role));
-    write(disk, 0, &front)?;
+    let prefix = header(row, role, count, second(role));
+    write(disk, 0, &prefix)?;
     fill_zeros(disk, 80, disk_size(row, role))?;
     sync(disk)?;
     Ok(())
@@ -158,9 +159,9 @@ pub fn begin<D: Disk>(
         disk.old disk.new result }
     ensures device { IfErr result (λ e. e.faults ≡ D.told.count disk.new) }
 {
-    let front = header(row, role, first, second);
+    let prefix = header(row, role, first, second);
     write_and_sync(disk, 0, &[0; 4])?;
-    write(disk, 4, &front[4..])?;
+    write(disk, 4, &prefix[4..])?;
     fill_zeros(disk, 80, disk_size(row, role))?;
     Ok(())
 }

@@ -43,7 +43,9 @@ fn sync_and_read<D: Disk>(disk: &mut D, at: u64, into: &mut [u8]) -> Result<(), 
 impl<D: Disk> Register<D> {
     ghost use Rattle.std.specs.Borrow.{sem, Lends};
     ghost use Rattle.stable_buffer.specs.contracts.register.Register.{the_row};
-    ghost use Rattle.stable_buffer.specs.Register.{IsReady, IsStaged, KeepsValue, MayTurnTo, register_disk, register_value, register_is_open, staged_value, staging_end, with_disk, value_of, disk_of};
+    ghost use Rattle.stable_buffer.specs.Register.{IsReady, IsStaged, KeepsValue, MayTurnTo, register_disk};
+    ghost use Rattle.stable_buffer.specs.Register.{register_value, register_is_open, staged_value, staging_end};
+    ghost use Rattle.stable_buffer.specs.Register.{with_disk, value_of, disk_of};
 
     /// Syncs the disk, and finds what its register holds. Where a call of the disk fails, the disk
     /// comes back.

@@ -224,12 +224,12 @@ one_list m c p messages told s stands =
     (recv_reading c.row p.world _ s.sound.rest.packet (s.disks.recv_disk.reading told))
 
 -- no record begins behind the end of all
-front_end : (messages : List (List ℕ)) (n : ℕ) → record_at messages n ≤ log_end messages
-front_end [] zero = omega arith
-front_end [] (suc n) = omega arith
-front_end (message ∷ messages) zero = let h = front_end messages zero in omega (arith, h)
-front_end (message ∷ messages) (suc n) =
-    let h = front_end messages n in
+prefix_end : (messages : List (List ℕ)) (n : ℕ) → record_at messages n ≤ log_end messages
+prefix_end [] zero = omega arith
+prefix_end [] (suc n) = omega arith
+prefix_end (message ∷ messages) zero = let h = prefix_end messages zero in omega (arith, h)
+prefix_end (message ∷ messages) (suc n) =
+    let h = prefix_end messages n in
     let sums = sum_by-cons (λ (x : List ℕ). 2 + length x) message (take n messages) in
     omega (arith, h, sums)
 
@@ -241,7 +241,7 @@ placed m c n at place able is known = record {
   place = λ told messages stands. ∥∥₁_elim (able.stands told) (hlevel props) (λ s.
       let same = one_list m c s.0 messages told s.1 stands in
       let e = known told s.0 s.1 in
-      let least = front_end s.0.world.received n in
+      let least = prefix_end s.0.world.received n in
       let end = s.1.world.end in
       let all : place ≡ record_at s.0.world.received n = omega (arith, is, e, least, end) in
       all ∙ ap (λ (l : List (List ℕ)). record_at l n) (sym same));

@@ -20,7 +20,8 @@ pub record Fails {D : Type 0} (m : Meaning D) (d : BareDisks D) (q : Past) (role
   pub fits : FitsRow d.row q.world
   pub disks : DisksFit m d.row d.low d.high d.recv q.world
 
--- from old to new no moment is lost, and whatever a crash at any moment from an earlier one on leaves, it could leave before, or has P
+-- from old to new no moment is lost, and whatever a crash at any moment from an earlier one on leaves, it could leave
+-- before, or has P
 pub record LeavesOn {D : Type 0} (m : Meaning D) (old new : D) (P : List ℕ → Type 0) : Type 0 where
   pub later : m.moment old ≤ m.moment new
   pub each : m.tells_images → (t : ℕ) (c : List ℕ) → t ≤ m.moment old → m.since new t c → m.since old t c ⊎ P c
@@ -29,8 +30,8 @@ pub record LeavesOn {D : Type 0} (m : Meaning D) (old new : D) (P : List ℕ →
 abbrev pub LowFitsAfter : SessionRow → Past → Past → List ℕ → Type 0
 LowFitsAfter row p q disk = (q.world.removed ≡ p.world.removed) × LowFits row q.world disk
 
--- whatever a crash at any moment leaves of each disk, it could leave before c, or fits the world at c or the one at d; the low
--- disk fits the one at d only where no message was removed on the way
+-- whatever a crash at any moment leaves of each disk, it could leave before c, or fits the world at c or the one at
+-- d; the low disk fits the one at d only where no message was removed on the way
 pub record LeavesFit {D : Type 0} (m : Meaning D) (c d : BareDisks D) (p q : Past) : Type 0 where
   pub low : LeavesOn m c.low d.low (λ disk. LowFits c.row p.world disk ⊎ LowFitsAfter c.row p q disk)
   pub high : LeavesOn m c.high d.high (λ disk. HighFits c.row p.world disk ⊎ HighFits c.row q.world disk)
@@ -50,17 +51,22 @@ PartsLeaveFit m c d p q = LeavesFit m (bare_of c) (bare_of d) p q
 -- prints was added to what was printed, and every image on the way fits. It opens no disk.
 module _ (Leads : Past → Past → List Event → Type 0) (Breaks : Role → Past → Past → List Event → Type 0)
     (Overfills : Past → Past → List Event → ℕ → ℕ → ℕ → Type 0) where
-  abbrev pub DoesFrom : {D : Type 0} → Meaning D → Parts D → Parts D → List Event → List Event → Past → Result (Unit {0}) Stop → Type 0
+  abbrev pub DoesFrom : {D : Type 0} → Meaning D → Parts D → Parts D → List Event → List Event → Past
+      → Result (Unit {0}) Stop → Type 0
   DoesFrom m c d out now p (Ok done) =
-      (q : Past) × (printed : List Event) × Leads p q printed × (now ≡ out ++ printed) × Stands m d q × PartsLeaveFit m c d p q
+      (q : Past) × (printed : List Event) × Leads p q printed × (now ≡ out ++ printed) × Stands m d q
+      × PartsLeaveFit m c d p q
   DoesFrom m c d out now p (Err Line) = ⊥
   DoesFrom m c d out now p (Err (Device role faults)) =
-      (q : Past) × (printed : List Event) × Breaks role p q printed × (now ≡ out ++ printed) × PartsFail m d q role faults × PartsLeaveFit m c d p q
+      (q : Past) × (printed : List Event) × Breaks role p q printed × (now ≡ out ++ printed)
+      × PartsFail m d q role faults × PartsLeaveFit m c d p q
   DoesFrom m c d out now p (Err (Full end size_of_message size)) =
-      (q : Past) × (printed : List Event) × Overfills p q printed end size_of_message size × (now ≡ out ++ printed) × Stands m d q × PartsLeaveFit m c d p q
+      (q : Past) × (printed : List Event) × Overfills p q printed end size_of_message size × (now ≡ out ++ printed)
+      × Stands m d q × PartsLeaveFit m c d p q
   DoesFrom m c d out now p (Err (Disk role why)) = ⊥
 
-  abbrev pub Does : {D : Type 0} → Meaning D → Parts D → Parts D → List Event → List Event → Result (Unit {0}) Stop → Type 0
+  abbrev pub Does : {D : Type 0} → Meaning D → Parts D → Parts D → List Event → List Event → Result (Unit {0}) Stop
+      → Type 0
   Does m c d out now result = (p : Past) → Stands m c p → DoesFrom m c d out now p result
 
 -- no disk fails in it, and each message fits

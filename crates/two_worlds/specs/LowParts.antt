@@ -104,7 +104,8 @@ module _ (Bars : Type 0) (Does : Bool → PastAlone → List Event → Type 0) w
   EndsBy c d printed (Some (stops.Disk role why)) = ⊥
 
 -- so for every past that the parts stood for
-abbrev pub Ends : LowParts → LowParts → (PastAlone → Type 0) → (PastAlone → Bool → PastAlone → List Event → Type 0) → List Event → Option Stop → Type 0
+abbrev pub Ends : LowParts → LowParts → (PastAlone → Type 0) → (PastAlone → Bool → PastAlone → List Event → Type 0)
+    → List Event → Option Stop → Type 0
 Ends c d Bars Does printed stop =
     (p : PastAlone) → PartsStand c p → EndsBy (Bars p) (Does p) c d printed stop
 
@@ -117,6 +118,8 @@ abbrev pub Crowds : SessionRow → Bool → Arriving → PastAlone → Type 0
 Crowds row fault a p = (k : LineComing) × Arrives row.id p.reading a k × (64 < length (joined_alone p fault k).waits)
 
 -- the look of a `told` line
-abbrev pub IsJoinedTold : SessionRow → ℕ → ℕ → Bool → ToldFeedback → Arriving → PastAlone → Bool → PastAlone → List Event → Type 0
+abbrev pub IsJoinedTold : SessionRow → ℕ → ℕ → Bool → ToldFeedback → Arriving → PastAlone → Bool → PastAlone
+    → List Event → Type 0
 IsJoinedTold row m w fault told a p is_fault q printed =
-    (k : LineComing) × Arrives row.id p.reading a k × IsOfferedTold row (joined_alone p fault k) m w told is_fault q printed
+    (k : LineComing) × Arrives row.id p.reading a k
+    × IsOfferedTold row (joined_alone p fault k) m w told is_fault q printed

@@ -1,5 +1,6 @@
 -- What an opening of a pump does with its three disks.
-use Rattle.std.specs.Prelude.{◌≡◌, ◌⊎◌, ℕ, Bool, true, false, ◌&&◌, List, [], ◌∷◌, length, drop, Option, Some, None, IfSome}
+use Rattle.std.specs.Prelude.{◌≡◌, ◌⊎◌, ℕ, Bool, true, false, ◌&&◌, List, [], ◌∷◌, length, drop, Option, Some, None}
+use Rattle.std.specs.Prelude.{IfSome}
 use Rattle.disk_model.specs.Disk.{Meaning, Moves, Same}
 use Rattle.disk_model.specs.declared.name.Role.{Role}
 use Rattle.disk_model.specs.declared.name.Role.TheVariants as roles
@@ -33,7 +34,8 @@ pub record StandForFound (row : SessionRow) (f : Found) (low high recv : List �
 
 -- the three disks, each formatted where it is empty, stand for this
 abbrev pub DisksStandFor : {D : Type 0} → Meaning D → SessionRow → D → D → D → Found → Type 0
-DisksStandFor m row low high recv f = StandForFound row f (readied row roles.Low (m.reading low)) (readied row roles.High (m.reading high)) (readied row roles.Recv (m.reading recv))
+DisksStandFor m row low high recv f = StandForFound row f (readied row roles.Low (m.reading low))
+    (readied row roles.High (m.reading high)) (readied row roles.Recv (m.reading recv))
 
 -- ---- why they are refused ----
 
@@ -61,7 +63,8 @@ IsLeft m row role old new is_fault =
 
 -- no call of the disk was made, or calls were made of which one failed or none; they fit where it has
 -- room for its format
-pub record LeavesDisk {D : Type 0} (m : Meaning D) (row : SessionRow) (role : Role) (old new : D) (is_fault : Bool) : Type 0 where
+pub record LeavesDisk {D : Type 0} (m : Meaning D) (row : SessionRow) (role : Role) (old new : D) (is_fault : Bool) :
+    Type 0 where
   pub serves : Serves m (size_of row role) old new is_fault
   pub left : IsLeft m row role old new is_fault
 
@@ -87,6 +90,7 @@ pub record ComeBack {D : Type 0} (m : Meaning D) (row : SessionRow) (low high re
   pub high_disk : LeavesDisk m row roles.High high e.high (failed_at roles.High e)
   pub recv_disk : LeavesDisk m row roles.Recv recv e.recv (failed_at roles.Recv e)
   pub counted : IfSome e.why (λ why. is_device why ≡ true → why ≡ Device (m.count (disk_back e.role e)))
-  pub refused : IfSome e.why (λ why. is_device why ≡ false → m.tells → IsRefused row (readied row roles.Low (m.reading low))
+  pub refused : IfSome e.why (λ why. is_device why ≡ false → m.tells
+      → IsRefused row (readied row roles.Low (m.reading low))
       (readied row roles.High (m.reading high)) (readied row roles.Recv (m.reading recv)) e.role why)
   pub memory : e.why ≡ None → (e.role ≡ roles.Low) × (e.low ≡ low) × (e.high ≡ high) × (e.recv ≡ recv)

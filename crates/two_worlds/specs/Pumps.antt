@@ -14,7 +14,8 @@ use Rattle.two_worlds.specs.declared.applied.Stop.TheVariants.{Line, Device, Ful
 use Rattle.two_worlds.specs.declared.pump.Pump.{Pump}
 use Rattle.two_worlds.specs.declared.pump.state.BareDisks.{BareDisks}
 use Rattle.two_worlds.specs.Standing.{bare_disk}
-use Rattle.two_worlds.specs.States.{disks_in, counts_in, is_down_in, kept_moment_in, IsOpenWith, StandsIn, RefusesAheadIn}
+use Rattle.two_worlds.specs.States.{disks_in, counts_in, is_down_in, kept_moment_in, IsOpenWith, StandsIn}
+use Rattle.two_worlds.specs.States.{RefusesAheadIn}
 use Rattle.two_worlds.specs.Doing.{Fails, LeavesFit}
 use Rattle.world_laws.specs.Timelines.{IsTimeline, RunGoesOn}
 use Rattle.two_worlds.specs.Timely as timely
@@ -60,14 +61,16 @@ StandsOrFails m s p = StandsFor m s p ⊎ ((role : Role) × (faults : ℕ) × Fa
 
 -- whatever timed run came to the past p goes on to q by the line
 abbrev pub GoesOnTimed : SessionRow → Past → ScriptLine → Past → Type 0
-GoesOnTimed row p line q = (steps : List TimedStep) (point : Point) → IsTimeline row p steps point → RunGoesOn row p line steps q
+GoesOnTimed row p line q = (steps : List TimedStep) (point : Point) → IsTimeline row p steps point
+    → RunGoesOn row p line steps q
 
 -- A line was given to s, which stood for p, and left it as t. It can be applied, and leads to what t
 -- stands for and prints this, and any timed run of the session goes on to the same; or it can't be, and
 -- nothing is printed or changed; or it is cut short by the device of a disk; or its message does not fit at
 -- the receiver, and t stands for what it led to before. A crash at any moment of the line leaves of each
 -- disk what fits the world before it or the one that it led to. No disk is refused.
-abbrev pub Applies : {D : Type 0} {g : _} → Meaning D → Pump D g → Pump D g → ScriptLine → Past → List Event → Option Stop → Type 0
+abbrev pub Applies : {D : Type 0} {g : _} → Meaning D → Pump D g → Pump D g → ScriptLine → Past → List Event
+    → Option Stop → Type 0
 Applies m s t line p printed None =
     (is_timely (row_of s) p line ≡ true)
     × ((q : Past) × LineStep (row_of s) p line q printed × StandsFor m t q
@@ -75,10 +78,12 @@ Applies m s t line p printed None =
 Applies m s t line p printed (Some Line) = IsRefusedWhole (row_of s) p line × (printed ≡ []) × (t ≡ s)
 Applies m s t line p printed (Some (Device role faults)) =
     (is_timely (row_of s) p line ≡ true)
-    × ((q : Past) × Breaks (row_of s) p line role q printed × FailsAt m t q role faults × LeavesFit m (disks_of s) (disks_of t) p q)
+    × ((q : Past) × Breaks (row_of s) p line role q printed × FailsAt m t q role faults
+    × LeavesFit m (disks_of s) (disks_of t) p q)
 Applies m s t line p printed (Some (Full end length size)) =
     (is_timely (row_of s) p line ≡ true)
-    × ((q : Past) × Overfills (row_of s) p line q printed end length size × StandsFor m t q × LeavesFit m (disks_of s) (disks_of t) p q)
+    × ((q : Past) × Overfills (row_of s) p line q printed end length size × StandsFor m t q
+    × LeavesFit m (disks_of s) (disks_of t) p q)
 Applies m s t line p printed (Some (Disk role why)) = ⊥
 
 -- the line can be applied, by what the pump keeps of the lines before; or it can't be
@@ -99,9 +104,12 @@ IsTooLong s end length size = IsOpenWith (λ c. working.IsTooLong c end length s
 -- A line was given to s and left it as t, whatever the disks tell. It can be applied; or it can't be, and
 -- nothing is printed or changed; or the device of a disk failed; or its message is too long for the
 -- receiver's disk; or it opens a disk again that is refused.
-abbrev pub AppliesOn : {D : Type 0} {g : _} → Meaning D → Pump D g → Pump D g → ScriptLine → List Event → Option Stop → Type 0
+abbrev pub AppliesOn : {D : Type 0} {g : _} → Meaning D → Pump D g → Pump D g → ScriptLine → List Event → Option Stop
+    → Type 0
 AppliesOn m s t line printed None = CanApply s line
 AppliesOn m s t line printed (Some Line) = CannotApply s line × (printed ≡ []) × (t ≡ s)
-AppliesOn m s t line printed (Some (Device role faults)) = CanApply s line × (is_down t ≡ true) × (faults ≡ m.count (disk_at role t))
+AppliesOn m s t line printed (Some (Device role faults)) = CanApply s line × (is_down t ≡ true)
+    × (faults ≡ m.count (disk_at role t))
 AppliesOn m s t line printed (Some (Full end length size)) = CanApply s line × IsTooLong t end length size
-AppliesOn m s t line printed (Some (Disk role why)) = CanApply s line × (timely.opens_again line ≡ true) × (is_down t ≡ true) × (is_device why ≡ false)
+AppliesOn m s t line printed (Some (Disk role why)) = CanApply s line × (timely.opens_again line ≡ true)
+    × (is_down t ≡ true) × (is_device why ≡ false)

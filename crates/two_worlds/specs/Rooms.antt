@@ -44,7 +44,8 @@ Serves m least old new is_fault =
 
 -- of each disk no call was made, or calls of which one failed or none, and they fit where it has room
 -- for all that its format needs; and no crash leaves more removed than taken
-pub record DisksGo {D : Type 0} (m : Meaning D) (row : SessionRow) (low high recv low' high' recv' : D) (stop : Option Stop) : Type 0 where
+pub record DisksGo {D : Type 0} (m : Meaning D) (row : SessionRow) (low high recv low' high' recv' : D)
+    (stop : Option Stop) : Type 0 where
   pub low_goes : Serves m (low_size row) low low' (stops_at roles.Low stop)
   pub high_goes : Serves m 80 high high' (stops_at roles.High stop)
   pub recv_goes : Serves m receiver_size recv recv' (stops_at roles.Recv stop)

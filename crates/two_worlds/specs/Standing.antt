@@ -1,5 +1,6 @@
 -- What the parts of a pump stand for between two lines of a script.
-use Rattle.std.specs.Prelude.{◌≡◌, ℕ, ◌≤◌, Bool, false, ◌||◌, not, List, map, length, drop, slice_get, Option, Some, None}
+use Rattle.std.specs.Prelude.{◌≡◌, ℕ, ◌≤◌, Bool, false, ◌||◌, not, List, map, length, drop, slice_get, Option, Some}
+use Rattle.std.specs.Prelude.{None}
 use Rattle.std.specs.List.{All, AllByRecursion}
 use Rattle.circular_buffer.specs.Buffer.{keep_last}
 use Rattle.disk_model.specs.Disk.{Meaning}
@@ -11,7 +12,8 @@ use Rattle.pump_frame.specs.declared.payload.Payload.{Payload}
 use Rattle.pump_frame.specs.declared.frame.Item.{Item}
 use Rattle.stable_buffer.specs.Low.{low_disk}
 use Rattle.stable_buffer.specs.High.{IsHighReady, high_count, high_disk}
-use Rattle.high_receiver.specs.Receiving.{IsRecvReady, recv_count, recv_end, recv_row, recv_size, recv_disk, recv_is_open}
+use Rattle.high_receiver.specs.Receiving.{IsRecvReady, recv_count, recv_end, recv_row, recv_size, recv_disk}
+use Rattle.high_receiver.specs.Receiving.{recv_is_open}
 use Rattle.pump_core.specs.History.{History}
 use Rattle.pump_core.specs.World.{World}
 use Rattle.pump_core.specs.Lawful.{IsLawful}
@@ -89,7 +91,8 @@ pub record HoldsWorld (k : Kept) (w : World) : Type 0 where
   pub received : length w.received ≡ k.received
   pub end : log_end w.received ≡ k.end
   pub sent : k.sent ≡ keep_last 64 w.sent
-  pub returned : (k.returned_before ≤ length w.returned) × (k.returned ≡ keep_last 64 (drop k.returned_before w.returned))
+  pub returned : (k.returned_before ≤ length w.returned)
+      × (k.returned ≡ keep_last 64 (drop k.returned_before w.returned))
 
 -- ---- the parts ----
 
@@ -185,7 +188,13 @@ is_down c = low.is_down c.low || high.is_down c.high || not (recv_is_open c.rece
 
 -- the disks of the parts, bare
 abbrev pub bare_of : {D : Type 0} → Parts D → BareDisks D
-bare_of c = record { row = c.row; low = low_disk c.low_store; high = high_disk c.high_store; recv = recv_disk c.receiver }
+bare_of c = record {
+  row = c.row;
+  low = low_disk c.low_store;
+  high = high_disk c.high_store;
+  recv = recv_disk
+      c.receiver;
+}
 
 abbrev pub bare_disk : {D : Type 0} → Role → BareDisks D → D
 bare_disk roles.Low d = d.low

@@ -1,5 +1,6 @@
 -- Which lines can be applied to the parts of a pump, by what they keep.
-use Rattle.std.specs.Prelude.{◌≡◌, ◌⊎◌, ◌+◌, ◌^◌, ◌<◌, ◌≤◌, Bool, true, false, ◌&&◌, ◌||◌, not, ◌==◌, nat_lt, nat_le, length, is_some}
+use Rattle.std.specs.Prelude.{◌≡◌, ◌⊎◌, ◌+◌, ◌^◌, ◌<◌, ◌≤◌, Bool, true, false, ◌&&◌, ◌||◌, not, ◌==◌, nat_lt, nat_le}
+use Rattle.std.specs.Prelude.{length, is_some}
 use Rattle.high_process.specs.States as high
 use Rattle.passage.specs.Plain.{held_in}
 use Rattle.script_reader.specs.declared.line.Line.{Line as ScriptLine}

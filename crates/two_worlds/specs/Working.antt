@@ -59,7 +59,8 @@ IsTooLong c end size_of_message size =
 -- the packet of this line is refused: a DATA that is ahead of the receiver, or a TAKEN of a message that was not sent
 abbrev pub IsAheadBy : {D : Type 0} → Parts D → ScriptLine → Type 0
 IsAheadBy c (lines.Carry session back) =
-    (packet : Item) × (slice_get c.sent.items (place c.sent.items back) ≡ Some packet) × (recv_count c.receiver < packet.number)
+    (packet : Item) × (slice_get c.sent.items (place c.sent.items back) ≡ Some packet)
+    × (recv_count c.receiver < packet.number)
 IsAheadBy c (lines.Return session m back) =
     (number : ℕ) × (slice_get c.returned.items (place c.returned.items back) ≡ Some number)
     × (expected (high.removed_of c.high) (high.hand_of c.high) ≤ number)

@@ -1,11 +1,13 @@
 //! What waits on a session's low connection.
 
-ghost use Rattle.std.specs.Prelude.{◌≡◌, ◌+◌, ◌^◌, ◌<◌, ◌≤◌, ◌++◌, [], ◌∷◌, List, take, length, vec_len, vec_capacity, IfOk};
+ghost use Rattle.std.specs.Prelude.{◌≡◌, ◌+◌, ◌^◌, ◌<◌, ◌≤◌, ◌++◌, [], ◌∷◌, List, take, length};
+ghost use Rattle.std.specs.Prelude.{IfOk};
 ghost use Rattle.pump_core.specs.History.{Arrival as Offered};
 ghost use Rattle.script_reader.specs.Steps.{coming};
 ghost use Rattle.two_worlds.specs.Private.Arrivals.{IsFed, Gathers};
 ghost use Rattle.two_worlds.specs.declared.connection.Waiting.{Waiting as Waits};
 
+use crate::waiting_list::WaitingList;
 use low_process::Arrival;
 use pump_frame::{Frame, Kind, Name, OutOfMemory, Payload, Reader, Step};
 use script_reader::ArrivingHead;
@@ -14,7 +16,7 @@ use std::marker::Model;
 
 /// An arrival that waits.
 #[derive(Clone, Copy)]
-enum Waiting {
+pub(crate) enum Waiting {
     Frame(Frame),
     /// Bytes that are no frame.
     Bad,
@@ -31,7 +33,7 @@ impl Default for Waiting {
 #[derive(Drop)]
 pub struct Connection {
     /// What was not taken, the oldest first.
-    waits: Vec<Waiting>,
+    waits: WaitingList,
     /// Bad bytes were taken; what waits behind them is never offered.
     is_broken: bool,
     reader: Reader,
@@ -47,36 +49,12 @@ impl Model for Connection {
     ghost use Rattle.two_worlds.specs.Private.Arrivals.{arrivals_of};
 
     ghost view = { λ c. record {
-      waits = arrivals_of c.waits.items;
+      waits = arrivals_of c.waits;
       is_broken = c.is_broken;
       reading = c.reader;
     } };
 
-    ghost use Rattle.std.specs.Prelude.{◌≤◌, vec_len, vec_capacity};
-
-    ghost invariant = { λ c. AreLawful (arrivals_of c.waits.items) × (vec_len c.waits ≤ 64) × (64 ≤ vec_capacity c.waits) };
-}
-
-/// How many wait.
-fn count_of(list: &Vec<Waiting>) -> usize
-    requires { vec_len list.now ≤ 64 }
-    ensures value { result ≡ length list.now.items }
-    ensures fits { result ≤ 64 }
-{
-    list.len()
-}
-
-/// One more arrival waits, where there is room for it.
-fn hold(waits: &mut Vec<Waiting>, next: Waiting)
-    requires few { vec_len waits.old ≤ 64 }
-    requires room { 64 ≤ vec_capacity waits.old }
-    ensures items { waits.new.items ≡ take 64 (waits.old.items ++ next ∷ []) }
-    ensures few { vec_len waits.new ≤ 64 }
-    ensures room { 64 ≤ vec_capacity waits.new }
-{
-    if count_of(waits) < 64 {
-        waits.push_reserved(next);
-    }
+    ghost invariant = { λ c. AreLawful (arrivals_of c.waits) };
 }
 
 /// One more raw byte: what it brings waits where there is room, and is counted.
@@ -84,47 +62,39 @@ fn read_byte(
     reader: &mut Reader,
     byte: u8,
     room: &mut Frame,
-    waits: &mut Vec<Waiting>,
+    waits: &mut WaitingList,
     count: usize,
 ) -> usize
     requires count { count < 2 ^ 32 }
-    requires few { vec_len waits.old ≤ 64 }
-    requires room { 64 ≤ vec_capacity waits.old }
-    ensures gathers { (before : List Waits) (added : List Offered) → Gathers before added waits.old.items count
+    ensures gathers { (before : List Waits) (added : List Offered) → Gathers before added waits.old count
         → (more : List Offered) × IsFed reader.old (byte ∷ []) (coming more reader.new)
-        × Gathers before (added ++ more) waits.new.items result }
+        × Gathers before (added ++ more) waits.new result }
     ensures count { result ≤ count + 1 }
-    ensures few { vec_len waits.new ≤ 64 }
-    ensures room { 64 ≤ vec_capacity waits.new }
 {
     let was_stopped = reader.is_stopped();
     match reader.feed_into(byte, room) {
         Step::More => count,
         Step::Whole => {
-            hold(waits, Waiting::Frame(*room));
+            waits.hold(Waiting::Frame(*room));
             count + 1
         }
         Step::Bad { .. } => {
             if was_stopped {
                 return count;
             }
-            hold(waits, Waiting::Bad);
+            waits.hold(Waiting::Bad);
             count + 1
         }
     }
 }
 
 /// What raw bytes bring waits as far as there is room; answers how many would wait with all of it.
-fn read_raw(reader: &mut Reader, bytes: &[u8], room: &mut Frame, waits: &mut Vec<Waiting>) -> usize
+fn read_raw(reader: &mut Reader, bytes: &[u8], room: &mut Frame, waits: &mut WaitingList) -> usize
     requires bytes { length bytes.now ≤ 1042 }
-    requires few { vec_len waits.old ≤ 64 }
-    requires room { 64 ≤ vec_capacity waits.old }
-    ensures gathers { (added : List Offered) × IsFed reader.old bytes.now (coming added reader.new)
-        × Gathers waits.old.items added waits.new.items result }
-    ensures few { vec_len waits.new ≤ 64 }
-    ensures room { 64 ≤ vec_capacity waits.new }
+    ensures { (added : List Offered) × IsFed reader.old bytes.now (coming added reader.new)
+        × Gathers waits.old added waits.new result }
 {
-    let mut count = count_of(waits);
+    let mut count = waits.len();
     for byte in bytes {
         count = read_byte(reader, *byte, room, waits, count);
     }
@@ -145,7 +115,7 @@ impl Connection {
         ensures { IfOk result (λ connection. connection ≡ unused) }
     {
         Ok(Connection {
-            waits: Vec::with_capacity(alloc, 64)?,
+            waits: WaitingList::new(alloc)?,
             is_broken: false,
             reader: Reader::new(),
             room: Frame::room(),
@@ -157,10 +127,10 @@ impl Connection {
         requires { HasNumber frame }
         ensures { JoinsFrame self.old self.new frame result }
     {
-        if count_of(&self.waits) >= 64 {
+        if self.waits.len() >= 64 {
             return false;
         }
-        self.waits.push_reserved(Waiting::Frame(frame));
+        self.waits.push(Waiting::Frame(frame));
         true
     }
 
@@ -172,7 +142,7 @@ impl Connection {
     {
         // What the reader holds is the prefix of a frame.
         let _stopped = self.reader.is_stopped();
-        let before = count_of(&self.waits);
+        let before = self.waits.len();
         let mut reader = self.reader.duplicate();
         if read_raw(&mut reader, bytes, &mut self.room, &mut self.waits) > 64 {
             self.waits.truncate(before);
@@ -213,7 +183,7 @@ impl Connection {
         ensures { Joins self.old self.new session (arriving_with bytes.now arriving.now) result }
     {
         // No more than 64 wait.
-        let _waiting = count_of(&self.waits);
+        let _waiting = self.waits.len();
         match arriving {
             ArrivingHead::Nothing => true,
             ArrivingHead::Hello { low, high } => self.join_hello(session, low, high),
@@ -231,7 +201,7 @@ impl Connection {
         if self.is_broken {
             return Arrival::Nothing;
         }
-        match self.waits.as_slice().first() {
+        match self.waits.first() {
             Some(Waiting::Frame(frame)) => Arrival::Frame(frame),
             Some(Waiting::Bad) => Arrival::Bad,
             None => Arrival::Nothing,
@@ -249,9 +219,7 @@ impl Connection {
         if matches!(self.first(), Arrival::Bad) {
             self.is_broken = true;
         }
-        if !self.waits.is_empty() {
-            self.waits.remove(0);
-        }
+        self.waits.take_first();
     }
 
     /// The connection is lost, and what waits on it; a new one begins.

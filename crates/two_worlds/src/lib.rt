@@ -9,6 +9,7 @@ mod low_side;
 mod not_open;
 mod printing;
 mod pump;
+mod waiting_list;
 
 pub use applied::{Applied, Stop};
 pub use low_pump::LowPump;

@@ -24,7 +24,8 @@ pub fn end_look<D: Disk>(
     out: &mut ArrayVec<EventHead, 4>,
 ) -> Result<(), Stop>
     requires out { length out.old.items ≤ 1 }
-    ensures prints { lines_in out.new.items ≡ lines_in out.old.items ++ look_prints row.now.id moment (look_with row.now head.now) }
+    ensures prints { lines_in out.new.items ≡ lines_in out.old.items ++ look_prints row.now.id moment
+        (look_with row.now head.now) }
     ensures stop { result ≡ stop_of D.told process.now store.now }
 {
     print_look(row, moment, head, out);

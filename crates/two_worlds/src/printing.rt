@@ -74,7 +74,8 @@ fn put_feedback(session: u32, moment: u64, feedback: Feedback, out: &mut ArrayVe
 /// reply.
 pub fn print_look(row: &SessionRow, moment: u64, head: &LookHead, out: &mut ArrayVec<EventHead, 4>)
     requires { length out.old.items ≤ 1 }
-    ensures { lines_in out.new.items ≡ lines_in out.old.items ++ look_prints row.now.id moment (look_with row.now head.now) }
+    ensures { lines_in out.new.items ≡ lines_in out.old.items ++ look_prints row.now.id moment
+        (look_with row.now head.now) }
 {
     let session = row.id;
     put_store(session, moment, head.stored, out);

@@ -39,7 +39,8 @@ pub struct Pump<D: Disk> {
 ghost use Rattle.two_worlds.specs.Keeping.{Keeps};
 
 impl<D: Disk> Pump<D> {
-    ghost use Rattle.std.specs.Prelude.{◌≡◌, ◌<◌, ◌≤◌, ◌+◌, ◌^◌, true, false, [], length, slice_index_or, None, OnOk, OnErr, IfOk, IfErr, IfSome};
+    ghost use Rattle.std.specs.Prelude.{◌≡◌, ◌<◌, ◌≤◌, ◌+◌, ◌^◌, true, false, [], length, slice_index_or, None, OnOk};
+    ghost use Rattle.std.specs.Prelude.{OnErr, IfOk, IfErr, IfSome};
     ghost use Rattle.disk_model.specs.declared.name.Role.{Role};
     ghost use Rattle.disk_model.specs.declared.name.Role.TheVariants as roles;
     ghost use Rattle.pump_frame.specs.Rows.{IsLawfulRow};
@@ -52,7 +53,8 @@ impl<D: Disk> Pump<D> {
     ghost use Rattle.world_laws.specs.Disks.{Opens, CrashesOpen, LeaveWorld, OpenAgain};
     ghost use Rattle.recovery.specs.Calls.{is_device};
     ghost use Rattle.two_worlds.specs.LowPumps.{stops_at_disk};
-    ghost use Rattle.two_worlds.specs.Pumps.{row_of, StandsFor, StandsOrFails, counts_of, is_down, kept_moment, disk_at, Applies, AppliesOn, RefusesAhead};
+    ghost use Rattle.two_worlds.specs.Pumps.{row_of, StandsFor, StandsOrFails, counts_of, is_down, kept_moment};
+    ghost use Rattle.two_worlds.specs.Pumps.{disk_at, Applies, AppliesOn, RefusesAhead};
     ghost use Rattle.two_worlds.specs.Rooms.{HasRoom, DisksGo};
     ghost use Rattle.two_worlds.specs.Reads.{ReadsOn, FailsReading};
     ghost use Rattle.high_receiver.specs.Receiving.{record_at};
@@ -68,7 +70,8 @@ impl<D: Disk> Pump<D> {
         recv: D,
     ) -> Result<Pump<D>, NotOpen<D>>
         requires lawful { IsLawfulRow row.now }
-        ensures opens { IfOk result (λ pump. D.told.tells → (f : Found) × DisksStandFor D.told row.now low high recv f) }
+        ensures opens { IfOk result (λ pump. D.told.tells → (f : Found)
+            × DisksStandFor D.told row.now low high recv f) }
         ensures stands { IfOk result (λ pump. D.told.tells → (f : Found) → DisksStandFor D.told row.now low high recv f
             → StandsFor D.told pump (first_past row.now f)) }
         ensures fresh { D.told.tells → D.told.reading low ≡ [] → D.told.reading high ≡ [] → D.told.reading recv ≡ []
@@ -82,9 +85,11 @@ impl<D: Disk> Pump<D> {
         ensures stops { IfErr result (λ e. D.told.tells → (f : Found) → DisksStandFor D.told row.now low high recv f
             → IfSome e.why (λ why. is_device why ≡ true)) }
         ensures room { D.told.tells_plan → HasRoom D.told row.now low high recv
-            → IfOk result (λ pump. HasRoom D.told row.now (disk_at roles.Low pump) (disk_at roles.High pump) (disk_at roles.Recv pump)) }
+            → IfOk result (λ pump. HasRoom D.told row.now (disk_at roles.Low pump) (disk_at roles.High pump)
+            (disk_at roles.Recv pump)) }
         ensures never { D.told.tells_plan → HasRoom D.told row.now low high recv
-            → D.told.reading low ≡ [] → D.told.reading high ≡ [] → D.told.reading recv ≡ [] → IfErr result (λ e. e.why ≡ None) }
+            → D.told.reading low ≡ [] → D.told.reading high ≡ [] → D.told.reading recv ≡ []
+            → IfErr result (λ e. e.why ≡ None) }
     {
         // It is read so that it is known to be in the range of its type.
         let _id = row.id;
@@ -121,8 +126,10 @@ impl<D: Disk> Pump<D> {
         ensures row { row_of self.new ≡ record (row_of self.old) { coarse = true } }
         ensures stands { (p : Past) → StandsFor D.told self.old p → StandsFor D.told self.new p }
         ensures disks { (role : Role) → disk_at role self.new ≡ disk_at role self.old }
-        ensures room { HasRoom D.told (row_of self.old) (disk_at roles.Low self.old) (disk_at roles.High self.old) (disk_at roles.Recv self.old)
-            → HasRoom D.told (row_of self.new) (disk_at roles.Low self.new) (disk_at roles.High self.new) (disk_at roles.Recv self.new) }
+        ensures room { HasRoom D.told (row_of self.old) (disk_at roles.Low self.old) (disk_at roles.High self.old)
+            (disk_at roles.Recv self.old)
+            → HasRoom D.told (row_of self.new) (disk_at roles.Low self.new) (disk_at roles.High self.new)
+            (disk_at roles.Recv self.new) }
         ensures up { is_down self.new ≡ is_down self.old }
         ensures moment { kept_moment self.new ≡ kept_moment self.old }
     {
@@ -139,7 +146,8 @@ impl<D: Disk> Pump<D> {
             → Applies D.told self.old self.new line.now p result.events.items result.stop }
         ensures on { AppliesOn D.told self.old self.new line.now result.events.items result.stop }
         ensures ahead { RefusesAhead self.old self.new line.now result.events.items }
-        ensures serve { DisksGo D.told (row_of self.old) (disk_at roles.Low self.old) (disk_at roles.High self.old) (disk_at roles.Recv self.old)
+        ensures serve { DisksGo D.told (row_of self.old) (disk_at roles.Low self.old) (disk_at roles.High self.old)
+            (disk_at roles.Recv self.old)
             (disk_at roles.Low self.new) (disk_at roles.High self.new) (disk_at roles.Recv self.new) result.stop }
         ensures down { is_down self.new ≡ stops_at_disk result.stop }
         ensures row { row_of self.new ≡ row_of self.old }
@@ -165,9 +173,11 @@ impl<D: Disk> Pump<D> {
         requires up { is_down self.old ≡ false }
         ensures applies { D.told.tells → (p : Past) → StandsFor D.told self.old p
             → Applies D.told self.old self.new (line_with bytes.now line.now) p (lines_in events.new.items) result }
-        ensures on { AppliesOn D.told self.old self.new (line_with bytes.now line.now) (lines_in events.new.items) result }
+        ensures on { AppliesOn D.told self.old self.new (line_with bytes.now line.now) (lines_in events.new.items)
+            result }
         ensures ahead { RefusesAhead self.old self.new (line_with bytes.now line.now) (lines_in events.new.items) }
-        ensures serve { DisksGo D.told (row_of self.old) (disk_at roles.Low self.old) (disk_at roles.High self.old) (disk_at roles.Recv self.old)
+        ensures serve { DisksGo D.told (row_of self.old) (disk_at roles.Low self.old) (disk_at roles.High self.old)
+            (disk_at roles.Recv self.old)
             (disk_at roles.Low self.new) (disk_at roles.High self.new) (disk_at roles.Recv self.new) result }
         ensures down { is_down self.new ≡ stops_at_disk result }
         ensures row { row_of self.new ≡ row_of self.old }
@@ -251,7 +261,8 @@ impl<D: Disk> Pump<D> {
         ensures again { (p : Past) → StandsOrFails D.told self p
             → OpenAgain D.told (row_of self) p.world result.0 result.1 result.2 }
         ensures open { CrashesOpen D.told (row_of self) result.0 result.1 result.2 }
-        ensures read { D.told.tells → Opens (row_of self) (D.told.reading result.0) (D.told.reading result.1) (D.told.reading result.2) }
+        ensures read { D.told.tells → Opens (row_of self) (D.told.reading result.0) (D.told.reading result.1)
+            (D.told.reading result.2) }
     {
         let disks = self.state.into_disks();
         // Its range: an opening is spoken of for rows of this type.

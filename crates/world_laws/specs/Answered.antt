@@ -26,11 +26,13 @@ pub record KeepsAnswers (p : Past) : Type 0 where
 
 -- from a world that begins, all events lead to worlds whose receiver has answered
 abbrev pub EveryWorldHasAnswered : Type 0
-EveryWorldHasAnswered = (start end : World) (events : List Event) → BeginsRun start → Run start events end → HasAnswered end
+EveryWorldHasAnswered = (start end : World) (events : List Event) → BeginsRun start → Run start events end
+    → HasAnswered end
 
 -- so has the receiver in the world to which a timed run comes
 abbrev pub TimedWorldsHaveAnswered : Type 0
-TimedWorldsHaveAnswered = (row : SessionRow) (steps : List Step) (t : Point) (h : History) → IsRun row steps t h → HasAnswered t.world
+TimedWorldsHaveAnswered = (row : SessionRow) (steps : List Step) (t : Point) (h : History) → IsRun row steps t h
+    → HasAnswered t.world
 
 -- whatever a script's session has been through, its receiver has answered
 abbrev pub SessionsKeepAnswers : Type 0

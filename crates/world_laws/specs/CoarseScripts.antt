@@ -56,7 +56,8 @@ CoarseTranscriptsAgreeInEachSession = (o p : Openings) (script other : List Line
     → low_lines (events_of number xs) ≡ low_lines (events_of number ys)
 
 abbrev pub CoarseScriptsAgreeInEachSession : Type 0
-CoarseScriptsAgreeInEachSession = (o p : Openings) (script other : List Line) (t u : Sessions) (xs ys : List Event) (number : ℕ)
+CoarseScriptsAgreeInEachSession = (o p : Openings) (script other : List Line) (t u : Sessions) (xs ys : List Event)
+    (number : ℕ)
     → ScriptComesTo o script t xs → ScriptComesTo p other u ys → OpenAlike o p (lines_of number script)
     → AgreeForCoarse (lines_of number script) (lines_of number other) (events_of number xs) (events_of number ys)
     → low_lines (events_of number xs) ≡ low_lines (events_of number ys)

@@ -49,7 +49,7 @@ pub record Hold {D : Type 0} (m : Meaning D) (row : SessionRow) (low high recv :
   pub disks : DisksFit m row low high recv world
 
 -- three readings that stand for one lawful world in which nothing is unfinished: no message that was
--- accepted is lost, and the receiver has a front of them
+-- accepted is lost, and the receiver has a prefix of them
 pub record Opens (row : SessionRow) (low high recv : List ℕ) : Type 0 where
   pub world : World
   pub lawful : IsLawful world

@@ -82,13 +82,14 @@ Outlives row received low high n message =
     (slice_get received n ≡ Some message)
     ⊎ (((value_of high).0 ≤ n) × (n < (value_of low).0) × InSlot row n message low)
 
--- of three disks: the receiver has a front of the messages that the world accepted, every one of these
+-- of three disks: the receiver has a prefix of the messages that the world accepted, every one of these
 -- outlives, and what was acknowledged is among them
 pub record KeepMessages (row : SessionRow) (w : World) (low high recv : List ℕ) : Type 0 where
   pub received : List Payload
   pub recv_is : RecvStands row received recv
-  pub front : IsPrefixOf received w.accepted
-  pub accepted : (n : ℕ) (message : Payload) → slice_get w.accepted n ≡ Some message → Outlives row received low high n message
+  pub prefix : IsPrefixOf received w.accepted
+  pub accepted : (n : ℕ) (message : Payload) → slice_get w.accepted n ≡ Some message
+      → Outlives row received low high n message
   pub acknowledged : All (λ n. n < length w.accepted) w.acknowledged
 
 -- disks that stand for what a crash leaves of a lawful world keep its messages
@@ -99,9 +100,10 @@ AcceptedOutlives = (row : SessionRow) (w : World) (low high recv : List ℕ)
 -- an acknowledgement is of an accepted message, and that outlives
 abbrev pub AckOutlives : SessionRow → List Payload → List Payload → List ℕ → List ℕ → Frame → Type 0
 AckOutlives row accepted received low high reply = reply.kind ≡ Ack
-    → (message : Payload) × (slice_get accepted reply.number ≡ Some message) × Outlives row received low high reply.number message
+    → (message : Payload) × (slice_get accepted reply.number ≡ Some message)
+    × Outlives row received low high reply.number message
 
--- of disks that stand for what a crash leaves of the world of a timed run: the receiver has a front of
+-- of disks that stand for what a crash leaves of the world of a timed run: the receiver has a prefix of
 -- what was accepted, and every message that was acknowledged and that the receiver has not is in the
 -- live slots of the low disk
 abbrev pub AcknowledgedOutlives : Type 0

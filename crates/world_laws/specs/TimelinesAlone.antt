@@ -29,8 +29,10 @@ abbrev pub AreEvents : PastAlone → Line → List Timed → Type 0
 AreEvents p (lines.Told session m w fault told a) events =
     (c : script.LineComing) × script.Arrives session p.reading a c × (came : List Coming)
     × (c.added ≡ map arrived came)
-    × ((f : Feedback) × (events ≡ Looks (record (look_begun m w false false) { feedback = f }) ∷ reverse (map (λ k. Comes k) came)))
-AreEvents p (lines.Gone session m) events = (f : Feedback) × (events ≡ Looks (record (look_begun m 0 true false) { feedback = f }) ∷ [])
+    × ((f : Feedback) × (events ≡ Looks (record (look_begun m w false false) { feedback = f }) ∷ reverse
+    (map (λ k. Comes k) came)))
+AreEvents p (lines.Gone session m) events = (f : Feedback)
+    × (events ≡ Looks (record (look_begun m 0 true false) { feedback = f }) ∷ [])
 AreEvents p _ events = ⊥
 
 -- the low side of the past p, to which this happened, came to the past q by this line: the line's events

@@ -5,9 +5,12 @@
 //! words. `two_worlds::laws` hands them on.
 #![tactic(auto)]
 
-ghost use Rattle.world_laws.specs.Laws.{EventsAreCertain, EveryWorldIsLawful, ForgedWorldsAreBounded, TimedWorldsAreLawful, RunsHaveReplies, PairsAgree, AcknowledgedIsAccepted, ThinnedHistoriesAgree, AcceptedOutlives, AcknowledgedOutlives};
+ghost use Rattle.world_laws.specs.Laws.{EventsAreCertain, EveryWorldIsLawful, ForgedWorldsAreBounded};
+ghost use Rattle.world_laws.specs.Laws.{TimedWorldsAreLawful, RunsHaveReplies, PairsAgree, AcknowledgedIsAccepted};
+ghost use Rattle.world_laws.specs.Laws.{ThinnedHistoriesAgree, AcceptedOutlives, AcknowledgedOutlives};
 ghost use Rattle.world_laws.specs.Classes.{ClassesAreFew};
-ghost use Rattle.world_laws.specs.CoarseScripts.{CoarseTranscriptsAgree, CoarseScriptsAgree, CoarseTranscriptsAgreeInEachSession, CoarseScriptsAgreeInEachSession};
+ghost use Rattle.world_laws.specs.CoarseScripts.{CoarseTranscriptsAgree, CoarseScriptsAgree};
+ghost use Rattle.world_laws.specs.CoarseScripts.{CoarseTranscriptsAgreeInEachSession, CoarseScriptsAgreeInEachSession};
 ghost use Rattle.world_laws.specs.ListedAverages.{AveragesDecide, CoarsePairsAgree};
 ghost use Rattle.world_laws.specs.Answered.{EveryWorldHasAnswered, TimedWorldsHaveAnswered, SessionsKeepAnswers};
 ghost use Rattle.world_laws.specs.Timelines.{LinesAreSteps, ScriptsAreTimedRuns};

@@ -13,7 +13,8 @@ impl Display for LowReason {
             LowWhy::Bad =>
                 "it sent bytes that are no frame; see that Low's sender keeps to the protocol",
             _ =>
-                "its connection failed, or it did not take a reply in time; see that Low's sender runs and reads its replies",
+                "its connection failed, or it did not take a reply in time; see that Low's sender runs and reads its \
+                replies",
         })
     }
 }
@@ -33,14 +34,17 @@ impl Display for HighReason {
             ),
             HighWhy::Ahead { number, expected } => write!(
                 f,
-                "it says that it has message {number}, and message {expected} is the next to be sent; see that its file is of this session"
+                "it says that it has message {number}, and message {expected} is the next to be sent; see that its \
+                file is of this session"
             ),
             HighWhy::Behind { count, removed } => write!(
                 f,
-                "it has {count} messages, and {removed} are removed from the relay; put back the newest file of the receiver"
+                "it has {count} messages, and {removed} are removed from the relay; put back the newest file of the \
+                receiver"
             ),
             _ => f.write_str(
-                "its connection failed, or it did not take a message in time; see that the receiver runs and reads its messages",
+                "its connection failed, or it did not take a message in time; see that the receiver runs and reads \
+                its messages",
             ),
         }
     }

@@ -7,10 +7,12 @@ use std::io;
 fn cause_text(cause: &str) -> &'static str {
     match cause {
         "1" => {
-            "is no line of a record, or not in this place: it is spelled wrong, has no line end, has a number out of its range or another session, or the record ends too early"
+            "is no line of a record, or not in this place: it is spelled wrong, has no line end, has a number out of \
+            its range or another session, or the record ends too early"
         }
         "2" => {
-            "tells a look that can't follow the ones before it: its moment falls, it takes what it could not take, or what it was told does not fit"
+            "tells a look that can't follow the ones before it: its moment falls, it takes what it could not take, \
+            or what it was told does not fit"
         }
         "3" => {
             "is the comment of a reply that no look gave, or stands where the comment of a reply is missing"
@@ -19,7 +21,8 @@ fn cause_text(cause: &str) -> &'static str {
             "tells fewer of High's times than a line before it, or an average that is not that of so many times"
         }
         _ => {
-            "has numbers that do not fit: more removed than taken, more taken than accepted, more accepted than there is room for, or not as many accepted as the looks stored"
+            "has numbers that do not fit: more removed than taken, more taken than accepted, more accepted than \
+            there is room for, or not as many accepted as the looks stored"
         }
     }
 }
@@ -30,7 +33,8 @@ pub fn explain_audit(rt: &HostRuntime, last: &[u8]) -> io::Result<()> {
     let number = field(line, 2);
     let text = cause_text(field(line, 3));
     eprintln!(rt;
-        "netpump: line {number} of the record {text} (docs/formats.md, \"Audits\"). The lines before it are a record that is clean so far"
+        "netpump: line {number} of the record {text} (docs/formats.md, \"Audits\"). The lines before it are a record \
+        that is clean so far"
     )
 }
 
@@ -40,7 +44,8 @@ pub fn explain_difference(rt: &HostRuntime, last: &[u8]) -> io::Result<()> {
     let item = field(line, 1);
     let part = field(line, 2);
     eprintln!(rt;
-        "netpump: the two records differ first in item {item}, in its {part}; item 0 is the row with what was found at the opening, and the looks are the items from 1 on (docs/formats.md, \"Audits\")"
+        "netpump: the two records differ first in item {item}, in its {part}; item 0 is the row with what was found \
+        at the opening, and the looks are the items from 1 on (docs/formats.md, \"Audits\")"
     )
 }
 
@@ -49,6 +54,7 @@ pub fn explain_unpaired(rt: &HostRuntime, last: &[u8]) -> io::Result<()> {
     let line = fault_line(last).unwrap_or("");
     let number = field(line, 2);
     eprintln!(rt;
-        "netpump: line {number} of standard input is no line of a record in its place; give a record, a line '# compare', and another record (docs/formats.md, \"Audits\")"
+        "netpump: line {number} of standard input is no line of a record in its place; give a record, a line '# \
+        compare', and another record (docs/formats.md, \"Audits\")"
     )
 }

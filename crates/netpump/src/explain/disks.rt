@@ -76,14 +76,16 @@ fn explain_field(
 ) -> io::Result<()> {
     let Some(header) = header(rt, session, role) else {
         return eprintln!(rt;
-            "netpump: the file {session}.{role} was made with other numbers than those of the session, or is another disk: {found} stands where {wanted} is wanted"
+            "netpump: the file {session}.{role} was made with other numbers than those of the session, or is another \
+            disk: {found} stands where {wanted} is wanted"
         );
     };
     match other_field(&header, session, role, found, wanted) {
         Field::Role => {
             let other = role_of(&header);
             eprintln!(rt;
-                "netpump: the file {session}.{role} is a disk of the role {other}, and one of the role {role} is wanted, so the files of the session stand under each other's names"
+                "netpump: the file {session}.{role} is a disk of the role {other}, and one of the role {role} is \
+                wanted, so the files of the session stand under each other's names"
             )
         }
         Field::Version => eprintln!(rt;
@@ -112,32 +114,41 @@ fn explain_disk(rt: &HostRuntime, words: &[String], line: &str) -> io::Result<()
     let second = field(line, 6);
     match field(line, 4) {
         "2" => eprintln!(rt;
-            "netpump: the file {session}.{role} is no disk of netpump's: it has {first} bytes, and does not begin as one"
+            "netpump: the file {session}.{role} is no disk of netpump's: it has {first} bytes, and does not begin as \
+            one"
         ),
         "3" => explain_field(rt, session, role, first, second),
         "4" => eprintln!(rt;
             "netpump: the register of the file {session}.{role} has {first} and {second}, which no such disk has"
         ),
         "5" => eprintln!(rt;
-            "netpump: the files {session}.low and {session}.high are not of one time: {first} messages are removed, and {second} accepted"
+            "netpump: the files {session}.low and {session}.high are not of one time: {first} messages are removed, \
+            and {second} accepted"
         ),
         "6" => eprintln!(rt;
-            "netpump: message {first} in the file {session}.{role} has {second} bytes, which is more than the session line allows"
+            "netpump: message {first} in the file {session}.{role} has {second} bytes, which is more than the \
+            session line allows"
         ),
         "7" => eprintln!(rt;
-            "netpump: the files of session {session} are not of one time: the receiver has {first} messages, and the bound is {second}"
+            "netpump: the files of session {session} are not of one time: the receiver has {first} messages, and the \
+            bound is {second}"
         ),
         "9" => explain_filled(rt, words, line),
         "10" => explain_small(rt, line),
         "11" => explain_long(rt, line),
         "12" => eprintln!(rt;
-            "netpump: the second pump has accepted {first} messages in {session}.low, and the receiver of the first one has {second} alone, so the six files are not of one time; put back those that belong together, or replay the chain in an empty folder"
+            "netpump: the second pump has accepted {first} messages in {session}.low, and the receiver of the first \
+            one has {second} alone, so the six files are not of one time; put back those that belong together, or \
+            replay the chain in an empty folder"
         ),
         "13" => eprintln!(rt;
-            "netpump: message {first} in {session}.low is another one than the receiver of the first pump has, so the six files are not of one chain; put back those that belong together, or replay the chain in an empty folder"
+            "netpump: message {first} in {session}.low is another one than the receiver of the first pump has, so \
+            the six files are not of one chain; put back those that belong together, or replay the chain in an empty \
+            folder"
         ),
         _ => eprintln!(rt;
-            "netpump: the files of session {session} are not of one time: message {first} is another one in {session}.low than in {session}.recv"
+            "netpump: the files of session {session} are not of one time: message {first} is another one in \
+            {session}.low than in {session}.recv"
         ),
     }
 }
@@ -149,7 +160,9 @@ fn explain_empty(rt: &HostRuntime, words: &[String], last: &[u8]) -> io::Result<
     let session = field(line, 2);
     let role = field(line, 3);
     eprintln!(rt;
-        "netpump: the file {session}.{role} is empty, so it is no disk yet; where all three files of the session are empty, netpump format {table} {session} makes new disks, and else put back the three files that belong together"
+        "netpump: the file {session}.{role} is empty, so it is no disk yet; where all three files of the session are \
+        empty, netpump format {table} {session} makes new disks, and else put back the three files that belong \
+        together"
     )
 }
 
@@ -166,6 +179,7 @@ pub fn explain_refusal(rt: &HostRuntime, words: &[String], last: &[u8]) -> io::R
         return Ok(());
     }
     eprintln!(rt;
-        "netpump: put back the three files that belong together, use the numbers of the session line that made them, or replay in an empty folder to begin anew (docs/formats.md, \"When disks are refused\")"
+        "netpump: put back the three files that belong together, use the numbers of the session line that made them, \
+        or replay in an empty folder to begin anew (docs/formats.md, \"When disks are refused\")"
     )
 }

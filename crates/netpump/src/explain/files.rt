@@ -23,12 +23,14 @@ fn reason(why: ErrorKind) -> &'static str {
 pub fn explain_table_file(rt: &HostRuntime, table: &str, why: ErrorKind) -> io::Result<()> {
     match why {
         ErrorKind::InvalidInput => eprintln!(rt;
-            "netpump: what is called {table} in this folder is no regular file but a folder, a link, a device or a pipe; name the file of the table itself"
+            "netpump: what is called {table} in this folder is no regular file but a folder, a link, a device or a \
+            pipe; name the file of the table itself"
         ),
         _ => {
             let reason = reason(why);
             eprintln!(rt;
-                "netpump: the file {table} in this folder could not be read: {reason}; see that it is there and that it is yours to read, and try again"
+                "netpump: the file {table} in this folder could not be read: {reason}; see that it is there and that \
+                it is yours to read, and try again"
             )
         }
     }
@@ -44,18 +46,22 @@ pub fn explain_disk_file(
 ) -> io::Result<()> {
     match why {
         ErrorKind::WouldBlock => eprintln!(rt;
-            "netpump: the file {session}.{role} is in use by another netpump; wait until that one has ended, and try again"
+            "netpump: the file {session}.{role} is in use by another netpump; wait until that one has ended, and try \
+            again"
         ),
         ErrorKind::AlreadyExists => eprintln!(rt;
-            "netpump: the file {session}.{role} was made by another program meanwhile, and is left as it is; wait until that one has ended, and try again"
+            "netpump: the file {session}.{role} was made by another program meanwhile, and is left as it is; wait \
+            until that one has ended, and try again"
         ),
         ErrorKind::InvalidInput => eprintln!(rt;
-            "netpump: what is called {session}.{role} in this folder is no regular file but a folder, a link, a device or a pipe; move it away, and put the disk of this name there"
+            "netpump: what is called {session}.{role} in this folder is no regular file but a folder, a link, a \
+            device or a pipe; move it away, and put the disk of this name there"
         ),
         _ => {
             let reason = reason(why);
             eprintln!(rt;
-                "netpump: the file {session}.{role} in this folder could not be made, read, written or synced: {reason}; {else_do}"
+                "netpump: the file {session}.{role} in this folder could not be made, read, written or synced: \
+                {reason}; {else_do}"
             )
         }
     }
@@ -70,12 +76,14 @@ pub fn explain_unread_disk(
 ) -> io::Result<()> {
     match why {
         ErrorKind::InvalidInput => eprintln!(rt;
-            "netpump: what is called {session}.{role} in this folder is no regular file but a folder, a link, a device or a pipe; run this in the folder of the disks"
+            "netpump: what is called {session}.{role} in this folder is no regular file but a folder, a link, a \
+            device or a pipe; run this in the folder of the disks"
         ),
         _ => {
             let reason = reason(why);
             eprintln!(rt;
-                "netpump: the file {session}.{role} in this folder could not be read: {reason}; run this in the folder of the disks, as a user that may read them"
+                "netpump: the file {session}.{role} in this folder could not be read: {reason}; run this in the \
+                folder of the disks, as a user that may read them"
             )
         }
     }

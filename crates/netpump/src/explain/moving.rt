@@ -27,7 +27,8 @@ pub fn table_name<'a>(rt: &HostRuntime, words: &'a [String]) -> &'a str {
 pub fn explain_same(rt: &HostRuntime, words: &[String], session: &str) -> io::Result<()> {
     let new_table = word(words, 3).unwrap_or("NEWTABLE");
     eprintln!(rt;
-        "netpump: a session is moved to another one, and both are session {session}; give the new row in {new_table} an id of its own, and name that"
+        "netpump: a session is moved to another one, and both are session {session}; give the new row in {new_table} \
+        an id of its own, and name that"
     )
 }
 
@@ -39,7 +40,8 @@ pub fn explain_filled(rt: &HostRuntime, words: &[String], line: &str) -> io::Res
         _ => ("only empty disks are formatted", "format"),
     };
     eprintln!(rt;
-        "netpump: the file {session}.{role} has {size} bytes already, and {only}; if nothing in them is wanted, remove the files {session}.low, {session}.high and {session}.recv, and {again} again"
+        "netpump: the file {session}.{role} has {size} bytes already, and {only}; if nothing in them is wanted, \
+        remove the files {session}.low, {session}.high and {session}.recv, and {again} again"
     )
 }
 
@@ -47,7 +49,8 @@ pub fn explain_filled(rt: &HostRuntime, words: &[String], line: &str) -> io::Res
 pub fn explain_small(rt: &HostRuntime, line: &str) -> io::Result<()> {
     let (session, held, capacity) = (field(line, 2), field(line, 5), field(line, 6));
     eprintln!(rt;
-        "netpump: {held} messages of session {session} are not removed, and the new row has capacity = {capacity}; give it a larger one, or let the relay of session {session} hand some on to the receiver first"
+        "netpump: {held} messages of session {session} are not removed, and the new row has capacity = {capacity}; \
+        give it a larger one, or let the relay of session {session} hand some on to the receiver first"
     )
 }
 
@@ -56,6 +59,7 @@ pub fn explain_long(rt: &HostRuntime, line: &str) -> io::Result<()> {
     let (session, role) = (field(line, 2), field(line, 3));
     let (number, length) = (field(line, 5), field(line, 6));
     eprintln!(rt;
-        "netpump: message {number} in the file {session}.{role} has {length} bytes, which is more than the new row's message; make that at least as long as the longest message"
+        "netpump: message {number} in the file {session}.{role} has {length} bytes, which is more than the new row's \
+        message; make that at least as long as the longest message"
     )
 }

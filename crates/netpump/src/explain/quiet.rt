@@ -18,11 +18,14 @@ fn tell_passed_over(rt: &HostRuntime, passed: Passed) -> io::Result<()> {
         Ok(())
     } else if passed.written == 0 {
         eprintln!(rt;
-            "netpump: nothing was sent: all lines were passed over, {over} in number, since the relay has accepted as many messages before. Lines go by their numbers, whatever they say, so send one list from its first line on, and put what is new behind it"
+            "netpump: nothing was sent: all lines were passed over, {over} in number, since the relay has accepted \
+            as many messages before. Lines go by their numbers, whatever they say, so send one list from its first \
+            line on, and put what is new behind it"
         )
     } else {
         eprintln!(rt;
-            "netpump: passed over the lines that the relay had accepted before, {over} in number, and sent those behind them"
+            "netpump: passed over the lines that the relay had accepted before, {over} in number, and sent those \
+            behind them"
         )
     }
 }
@@ -34,7 +37,9 @@ fn tell_nothing_came(rt: &HostRuntime, words: &[String], passed: Passed) -> io::
         return Ok(());
     }
     eprintln!(rt;
-        "netpump: the relay ended the connection before a message came. If it still runs, it has removed more messages than the file {session}.recv has, or has accepted fewer: put back the newest {session}.recv, and see that no other receiver has this session"
+        "netpump: the relay ended the connection before a message came. If it still runs, it has removed more \
+        messages than the file {session}.recv has, or has accepted fewer: put back the newest {session}.recv, and \
+        see that no other receiver has this session"
     )
 }
 

@@ -45,13 +45,16 @@ impl<D: Disk> Chain<D> {
         requires count { count ≤ (counts_of self.old.second).2 }
         requires bound { count ≤ (counts_of self.old.first).2 }
         requires few { count ≤ 2 ^ 48 }
-        ensures agree { OnOk result (D.told.tells → (p q : Past) → StandsFor D.told self.old.first p → StandsFor D.told self.old.second q
+        ensures agree { OnOk result (D.told.tells → (p q : Past) → StandsFor D.told self.old.first p
+            → StandsFor D.told self.old.second q
             → Agree 0 count q.world.received p.world.received) }
         ensures first { OnOk result (ReadsOn D.told roles.Recv self.old.first self.new.first) }
         ensures second { OnOk result (ReadsOn D.told roles.Recv self.old.second self.new.second) }
-        ensures unlike { IfErr result (λ why. D.told.tells → (p q : Past) → StandsFor D.told self.old.first p → StandsFor D.told self.old.second q
+        ensures unlike { IfErr result (λ why. D.told.tells → (p q : Past) → StandsFor D.told self.old.first p
+            → StandsFor D.told self.old.second q
             → IsUnlike 0 q.world.accepted p.world.received why) }
-        ensures ends { IfErr result (EndsReading D.told roles.Recv self.old.first self.new.first self.old.second self.new.second) }
+        ensures ends { IfErr result (EndsReading D.told roles.Recv self.old.first self.new.first self.old.second
+            self.new.second) }
         ensures sender { self.new.sender ≡ self.old.sender }
         ensures under_way { self.new.is_under_way ≡ self.old.is_under_way }
     {
@@ -82,13 +85,16 @@ impl<D: Disk> Chain<D> {
         requires count { count ≡ (counts_of self.old.second).0 }
         requires bound { count ≤ (counts_of self.old.first).2 }
         requires few { count ≤ 2 ^ 48 }
-        ensures agree { OnOk result (D.told.tells → (p q : Past) → StandsFor D.told self.old.first p → StandsFor D.told self.old.second q
+        ensures agree { OnOk result (D.told.tells → (p q : Past) → StandsFor D.told self.old.first p
+            → StandsFor D.told self.old.second q
             → Agree removed count q.world.accepted p.world.received) }
         ensures first { OnOk result (ReadsOn D.told roles.Recv self.old.first self.new.first) }
         ensures second { OnOk result (ReadsOn D.told roles.Low self.old.second self.new.second) }
-        ensures unlike { IfErr result (λ why. D.told.tells → (p q : Past) → StandsFor D.told self.old.first p → StandsFor D.told self.old.second q
+        ensures unlike { IfErr result (λ why. D.told.tells → (p q : Past) → StandsFor D.told self.old.first p
+            → StandsFor D.told self.old.second q
             → IsUnlike removed q.world.accepted p.world.received why) }
-        ensures ends { IfErr result (EndsReading D.told roles.Low self.old.first self.new.first self.old.second self.new.second) }
+        ensures ends { IfErr result (EndsReading D.told roles.Low self.old.first self.new.first self.old.second
+            self.new.second) }
         ensures sender { self.new.sender ≡ self.old.sender }
         ensures under_way { self.new.is_under_way ≡ self.old.is_under_way }
     {

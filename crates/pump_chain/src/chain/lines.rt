@@ -1,11 +1,13 @@
 //! What a chain does with a line.
 
-ghost use Rattle.std.specs.Prelude.{◌≡◌, ◌^◌, ◌<◌, ◌≤◌, ℕ, List, max, false, [], length, is_none, IfOk, IfErr, OnOk, OnErr};
+ghost use Rattle.std.specs.Prelude.{◌≡◌, ◌^◌, ◌<◌, ◌≤◌, ℕ, List, max, false, [], length, is_none, IfOk, IfErr, OnOk};
+ghost use Rattle.std.specs.Prelude.{OnErr};
 ghost use Rattle.disk_model.specs.declared.name.Role.TheVariants as roles;
-ghost use Rattle.pump_chain.specs.Chained.{Chained, OfFirst, OfSecond, MakesFirst, MakesSecond, added, is_frame as adds_frame, is_look};
+ghost use Rattle.pump_chain.specs.Chained.{Chained, OfFirst, OfSecond, MakesFirst, MakesSecond, added};
+ghost use Rattle.pump_chain.specs.Chained.{is_frame as adds_frame, is_look};
 ghost use Rattle.pump_chain.specs.Failing.{FailNoLess};
 ghost use Rattle.pump_chain.specs.Private.{order_by, AddsMessage};
-ghost use Rattle.pump_chain.specs.Standing.{ChainStands, AppliesBy, LeavesFronts, IsCountedBy, chain_is_down};
+ghost use Rattle.pump_chain.specs.Standing.{ChainStands, AppliesBy, LeavesPrefixes, IsCountedBy, chain_is_down};
 ghost use Rattle.script_reader.specs.declared.line.Arriving.TheVariants as arriving;
 ghost use Rattle.script_reader.specs.declared.line.Line.TheVariants as lines;
 ghost use Rattle.script_reader.specs.Heads.{arriving_with, line_with, CanHoldLine};
@@ -48,8 +50,10 @@ impl<D: Disk> Chain<D> {
     /// The first session is made coarse, before all that is done with either.
     pub fn coarsen_first(&mut self) -> Option<Stop>
         requires up { chain_is_down self.old ≡ false }
-        ensures applies { D.told.tells → (c : Chained) → ChainStands D.told self.old c → AppliesBy D.told self.old self.new c MakesFirst [] result }
-        ensures crashes { D.told.tells → (c : Chained) → ChainStands D.told self.old c → LeavesFronts D.told self.old self.new }
+        ensures applies { D.told.tells → (c : Chained) → ChainStands D.told self.old c
+            → AppliesBy D.told self.old self.new c MakesFirst [] result }
+        ensures crashes { D.told.tells → (c : Chained) → ChainStands D.told self.old c
+            → LeavesPrefixes D.told self.old self.new }
         ensures down { chain_is_down self.new ≡ stops_at_disk result }
         ensures device { IsCountedBy D.told self.old self.new MakesFirst result }
         ensures later { FailNoLess D.told self.old self.new }
@@ -64,8 +68,10 @@ impl<D: Disk> Chain<D> {
     /// So the second session.
     pub fn coarsen_second(&mut self) -> Option<Stop>
         requires up { chain_is_down self.old ≡ false }
-        ensures applies { D.told.tells → (c : Chained) → ChainStands D.told self.old c → AppliesBy D.told self.old self.new c MakesSecond [] result }
-        ensures crashes { D.told.tells → (c : Chained) → ChainStands D.told self.old c → LeavesFronts D.told self.old self.new }
+        ensures applies { D.told.tells → (c : Chained) → ChainStands D.told self.old c
+            → AppliesBy D.told self.old self.new c MakesSecond [] result }
+        ensures crashes { D.told.tells → (c : Chained) → ChainStands D.told self.old c
+            → LeavesPrefixes D.told self.old self.new }
         ensures down { chain_is_down self.new ≡ stops_at_disk result }
         ensures device { IsCountedBy D.told self.old self.new MakesSecond result }
         ensures later { FailNoLess D.told self.old self.new }
@@ -106,8 +112,10 @@ impl<D: Disk> Chain<D> {
         requires up { chain_is_down self.old ≡ false }
         requires none { length events.old.items ≤ 0 }
         ensures applies { D.told.tells → (c : Chained) → ChainStands D.told self.old c
-            → AppliesBy D.told self.old self.new c (OfFirst (line_with bytes.now line.now)) (lines_in events.new.items) result }
-        ensures crashes { D.told.tells → (c : Chained) → ChainStands D.told self.old c → LeavesFronts D.told self.old self.new }
+            → AppliesBy D.told self.old self.new c (OfFirst (line_with bytes.now line.now)) (lines_in events.new.items)
+            result }
+        ensures crashes { D.told.tells → (c : Chained) → ChainStands D.told self.old c
+            → LeavesPrefixes D.told self.old self.new }
         ensures down { chain_is_down self.new ≡ stops_at_disk result }
         ensures device { IsCountedBy D.told self.old self.new (OfFirst (line_with bytes.now line.now)) result }
         ensures later { FailNoLess D.told self.old self.new }
@@ -134,8 +142,10 @@ impl<D: Disk> Chain<D> {
         requires none { length events.old.items ≤ 0 }
         requires look { is_look (line_with bytes.now line.now) ≡ false }
         ensures applies { D.told.tells → (c : Chained) → ChainStands D.told self.old c
-            → AppliesBy D.told self.old self.new c (OfSecond (line_with bytes.now line.now)) (lines_in events.new.items) result }
-        ensures crashes { D.told.tells → (c : Chained) → ChainStands D.told self.old c → LeavesFronts D.told self.old self.new }
+            → AppliesBy D.told self.old self.new c (OfSecond (line_with bytes.now line.now)) (lines_in events.new.items)
+            result }
+        ensures crashes { D.told.tells → (c : Chained) → ChainStands D.told self.old c
+            → LeavesPrefixes D.told self.old self.new }
         ensures down { chain_is_down self.new ≡ stops_at_disk result }
         ensures device { IsCountedBy D.told self.old self.new (OfSecond (line_with bytes.now line.now)) result }
         ensures later { FailNoLess D.told self.old self.new }
@@ -197,10 +207,14 @@ impl<D: Disk> Chain<D> {
         requires moment { moment ≤ 2 ^ 62 }
         requires none { length events.old.items ≤ 0 }
         ensures applies { D.told.tells → (c : Chained) → ChainStands D.told self.old c
-            → AppliesBy D.told self.old self.new c (OfSecond (lines.Look (row_of self.old.second).id moment word (added c))) (lines_in events.new.items) result }
-        ensures crashes { D.told.tells → (c : Chained) → ChainStands D.told self.old c → LeavesFronts D.told self.old self.new }
+            → AppliesBy D.told self.old self.new c
+            (OfSecond (lines.Look (row_of self.old.second).id moment word (added c))) (lines_in events.new.items)
+            result }
+        ensures crashes { D.told.tells → (c : Chained) → ChainStands D.told self.old c
+            → LeavesPrefixes D.told self.old self.new }
         ensures down { chain_is_down self.new ≡ stops_at_disk result }
-        ensures device { IsCountedBy D.told self.old self.new (OfSecond (lines.Look (row_of self.old.second).id moment word arriving.Nothing)) result }
+        ensures device { IsCountedBy D.told self.old self.new
+            (OfSecond (lines.Look (row_of self.old.second).id moment word arriving.Nothing)) result }
         ensures later { FailNoLess D.told self.old self.new }
     {
         if moment < self.moment() {

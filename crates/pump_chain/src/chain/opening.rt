@@ -4,7 +4,8 @@ ghost use Rattle.std.specs.Prelude.{◌≡◌, ◌≤◌, false, None, IfOk, IfE
 ghost use Rattle.pump_chain.specs.Chained.{Chained, unsent};
 ghost use Rattle.pump_chain.specs.Compared.{AreRead, IsRead};
 ghost use Rattle.pump_chain.specs.Comparing.{IsUnlinked};
-ghost use Rattle.pump_chain.specs.Opening.{first_chained, trio_of, StandFor, HaveRoom, AreLeft, IsUnopened, ComeBackFor, IsExcused, cause_of, is_by_device};
+ghost use Rattle.pump_chain.specs.Opening.{first_chained, trio_of, StandFor, HaveRoom, AreLeft, IsUnopened};
+ghost use Rattle.pump_chain.specs.Opening.{ComeBackFor, IsExcused, cause_of, is_by_device};
 ghost use Rattle.pump_chain.specs.Standing.{ChainStands, ChainStandsOrFails, chain_is_down};
 ghost use Rattle.pump_core.specs.Lawful.{IsPrefixOf};
 ghost use Rattle.pump_frame.specs.Rows.{IsLawfulRow};
@@ -32,13 +33,15 @@ fn open_one<D: Disk>(
 ) -> Result<Pump<D>, (ChainWhy, Trio<D>)>
     requires lawful { IsLawfulRow row.now }
     ensures found { IfOk result (λ pump. D.told.tells → (f : Found) × StandFor D.told row.now disks f) }
-    ensures stands { IfOk result (λ pump. D.told.tells → (f : Found) → StandFor D.told row.now disks f → StandsFor D.told pump (first_past row.now f)) }
+    ensures stands { IfOk result (λ pump. D.told.tells → (f : Found) → StandFor D.told row.now disks f
+        → StandsFor D.told pump (first_past row.now f)) }
     ensures row { IfOk result (λ pump. row_of pump ≡ row.now) }
     ensures up { IfOk result (λ pump. is_down pump ≡ false) }
     ensures left { IfOk result (λ pump. AreLeft D.told row.now disks (trio_of pump) None) }
     ensures back { IfErr result (λ e. IsUnopened D.told row.now disks e.1 e.0) }
     ensures stops { IfErr result (λ e. D.told.tells → (f : Found) → StandFor D.told row.now disks f → IsExcused e.0) }
-    ensures room { D.told.tells_plan → HaveRoom D.told row.now disks → IfOk result (λ pump. HaveRoom D.told row.now (trio_of pump)) }
+    ensures room { D.told.tells_plan → HaveRoom D.told row.now disks
+        → IfOk result (λ pump. HaveRoom D.told row.now (trio_of pump)) }
 {
     match Pump::open(alloc, row, disks.low, disks.high, disks.recv) {
         Ok(pump) => Ok(pump),
@@ -65,8 +68,10 @@ fn cause(session: u32, role: Role, why: Option<Why>) -> ChainWhy
 
 fn close_one<D: Disk>(pump: Pump<D>) -> Trio<D>
     ensures disks { result ≡ trio_of pump }
-    ensures left { (p : Past) → StandsOrFails D.told pump p → LeaveWorld D.told (row_of pump) p.world result.low result.high result.recv }
-    ensures again { (p : Past) → StandsOrFails D.told pump p → OpenAgain D.told (row_of pump) p.world result.low result.high result.recv }
+    ensures left { (p : Past) → StandsOrFails D.told pump p
+        → LeaveWorld D.told (row_of pump) p.world result.low result.high result.recv }
+    ensures again { (p : Past) → StandsOrFails D.told pump p
+        → OpenAgain D.told (row_of pump) p.world result.low result.high result.recv }
     ensures crashes { CrashesOpen D.told (row_of pump) result.low result.high result.recv }
 {
     let (low, high, recv) = pump.close();
@@ -94,13 +99,17 @@ impl<D: Disk> Chain<D> {
     fn compare(&mut self) -> Result<(), ChainWhy>
         requires first { is_down self.old.first ≡ false }
         requires second { is_down self.old.second ≡ false }
-        ensures linked { OnOk result (D.told.tells → (p q : Past) → StandsFor D.told self.old.first p → StandsFor D.told self.old.second q
+        ensures linked { OnOk result (D.told.tells → (p q : Past) → StandsFor D.told self.old.first p
+            → StandsFor D.told self.old.second q
             → IsPrefixOf q.world.accepted p.world.received) }
-        ensures unlinked { IfErr result (λ why. D.told.tells → (p q : Past) → StandsFor D.told self.old.first p → StandsFor D.told self.old.second q
+        ensures unlinked { IfErr result (λ why. D.told.tells → (p q : Past) → StandsFor D.told self.old.first p
+            → StandsFor D.told self.old.second q
             → is_by_device why ≡ false → IsUnlinked q.world.accepted p.world.received why) }
-        ensures stands { OnOk result (((p : Past) → StandsFor D.told self.old.first p → StandsFor D.told self.new.first p)
+        ensures stands { OnOk result (((p : Past) → StandsFor D.told self.old.first p
+            → StandsFor D.told self.new.first p)
             × ((p : Past) → StandsFor D.told self.old.second p → StandsFor D.told self.new.second p)) }
-        ensures read { OnOk result (IsRead D.told self.old.first self.new.first None × IsRead D.told self.old.second self.new.second None) }
+        ensures read { OnOk result (IsRead D.told self.old.first self.new.first None
+            × IsRead D.told self.old.second self.new.second None) }
         ensures ends { IfErr result (AreRead D.told self.old.first self.new.first self.old.second self.new.second) }
         ensures up { OnOk result (chain_is_down self.new ≡ false) }
         ensures sender { self.new.sender ≡ self.old.sender }
@@ -142,17 +151,20 @@ impl<D: Disk> Chain<D> {
         requires message { one.now.message ≤ two.now.message }
         ensures first { IfOk result (λ chain. D.told.tells → (f : Found) × StandFor D.told one.now disks.first f) }
         ensures second { IfOk result (λ chain. D.told.tells → (h : Found) × StandFor D.told two.now disks.second h) }
-        ensures stands { IfOk result (λ chain. D.told.tells → (f h : Found) → StandFor D.told one.now disks.first f → StandFor D.told two.now disks.second h
+        ensures stands { IfOk result (λ chain. D.told.tells → (f h : Found) → StandFor D.told one.now disks.first f
+            → StandFor D.told two.now disks.second h
             → ChainStands D.told chain (first_chained one.now f two.now h)) }
         ensures rows { IfOk result (λ chain. (row_of chain.first ≡ one.now) × (row_of chain.second ≡ two.now)) }
         ensures up { IfOk result (λ chain. chain_is_down chain ≡ false) }
         ensures left { IfOk result (λ chain. AreLeft D.told one.now disks.first (trio_of chain.first) None
             × AreLeft D.told two.now disks.second (trio_of chain.second) None) }
         ensures back { IfErr result (λ e. ComeBackFor D.told one.now two.now disks e.disks e.why) }
-        ensures stops { IfErr result (λ e. D.told.tells → (f h : Found) → StandFor D.told one.now disks.first f → StandFor D.told two.now disks.second h
+        ensures stops { IfErr result (λ e. D.told.tells → (f h : Found) → StandFor D.told one.now disks.first f
+            → StandFor D.told two.now disks.second h
             → IsPrefixOf (accepted_in h) f.received → IsExcused e.why) }
         ensures room { D.told.tells_plan → HaveRoom D.told one.now disks.first → HaveRoom D.told two.now disks.second
-            → IfOk result (λ chain. HaveRoom D.told one.now (trio_of chain.first) × HaveRoom D.told two.now (trio_of chain.second)) }
+            → IfOk result (λ chain. HaveRoom D.told one.now (trio_of chain.first)
+            × HaveRoom D.told two.now (trio_of chain.second)) }
         ensures never { D.told.tells_plan → HaveRoom D.told one.now disks.first → HaveRoom D.told two.now disks.second
             → IfErr result (λ e. is_by_device e.why ≡ false) }
     {
@@ -193,11 +205,15 @@ impl<D: Disk> Chain<D> {
         ensures first { result.first ≡ trio_of self.first }
         ensures second { result.second ≡ trio_of self.second }
         ensures left { (c : Chained) → ChainStandsOrFails D.told self c
-            → LeaveWorld D.told (row_of self.first) c.first.past.world result.first.low result.first.high result.first.recv
-            × LeaveWorld D.told (row_of self.second) c.second.past.world result.second.low result.second.high result.second.recv }
+            → LeaveWorld D.told (row_of self.first) c.first.past.world result.first.low result.first.high
+            result.first.recv
+            × LeaveWorld D.told (row_of self.second) c.second.past.world result.second.low result.second.high
+            result.second.recv }
         ensures again { (c : Chained) → ChainStandsOrFails D.told self c
-            → OpenAgain D.told (row_of self.first) c.first.past.world result.first.low result.first.high result.first.recv
-            × OpenAgain D.told (row_of self.second) c.second.past.world result.second.low result.second.high result.second.recv }
+            → OpenAgain D.told (row_of self.first) c.first.past.world result.first.low result.first.high
+            result.first.recv
+            × OpenAgain D.told (row_of self.second) c.second.past.world result.second.low result.second.high
+            result.second.recv }
         ensures open { CrashesOpen D.told (row_of self.first) result.first.low result.first.high result.first.recv
             × CrashesOpen D.told (row_of self.second) result.second.low result.second.high result.second.recv }
     {

@@ -96,10 +96,10 @@ take_fits (suc n) [] le = refl
 take_fits zero (x ∷ xs) le = absurd (omega (arith, le))
 take_fits (suc n) (x ∷ xs) le = ap (λ l. x ∷ l) (take_fits n xs (omega (arith, le)))
 
-take_front : {X : Type 0} (n : ℕ) (xs ys : List X) → length xs ≤ n → take (length xs) (take n (xs ++ ys)) ≡ xs
-take_front n [] ys le = refl
-take_front zero (x ∷ xs) ys le = absurd (omega (arith, le))
-take_front (suc n) (x ∷ xs) ys le = ap (λ l. x ∷ l) (take_front n xs ys (omega (arith, le)))
+take_prefix : {X : Type 0} (n : ℕ) (xs ys : List X) → length xs ≤ n → take (length xs) (take n (xs ++ ys)) ≡ xs
+take_prefix n [] ys le = refl
+take_prefix zero (x ∷ xs) ys le = absurd (omega (arith, le))
+take_prefix (suc n) (x ∷ xs) ys le = ap (λ l. x ∷ l) (take_prefix n xs ys (omega (arith, le)))
 
 module _ (before : List Waiting) where
   pub gathers_none : length before ≤ 64 → Gathers before [] before (length before)
@@ -136,7 +136,7 @@ module _ (before : List Waiting) where
     -- cut back to what waited before
     pub cut_back : length before ≤ 64 → take (length before) held ≡ before
     cut_back few =
-        ap (λ l. take (length before) l) g.held_are ∙ take_front 64 before g.all few
+        ap (λ l. take (length before) l) g.held_are ∙ take_prefix 64 before g.all few
 
 pub push_fits : (xs : List Waiting) (x : Waiting) (n : ℕ) → n ≡ length xs → n < 64 → take 64 (xs ++ x ∷ []) ≡ xs ++ x ∷ []
 push_fits xs x n e less = take_fits 64 (xs ++ x ∷ []) (omega (arith, e, less, length-append xs (x ∷ [])))

@@ -11,7 +11,7 @@ use Rattle.stable_buffer.specs.Stands.{LowStands, HighStands, InSlot, slot_of, s
 use Rattle.stable_buffer.specs.Log.{RecvStands, Records, log_of}
 use Rattle.stable_buffer.specs.Numbers.{length_at}
 use Rattle.stable_buffer.specs.Register.{value_of}
-use Rattle.high_receiver.proofs.Appends.{records_push, length_front}
+use Rattle.high_receiver.proofs.Appends.{records_push, length_prefix}
 use Rattle.pump_core.specs.World.{opened, Agree}
 use Rattle.pump_core.specs.Events.{Opened}
 use Rattle.pump_core.proofs.Laws.{begins_lawful}
@@ -60,7 +60,7 @@ slot_tells row n x disk small s =
     let rest = drop (2 + l) (drop at disk) in
     let whole : drop at disk ≡ spelled x ++ rest = sym (take-append-drop (2 + l) (drop at disk)) ∙ ap (λ (f : List ℕ). f ++ rest) s.bytes in
     let number : length_at disk at ≡ l =
-    length_behind disk at ∙ ap (λ (f : List ℕ). length_at f 0) whole ∙ length_front (spelled x) rest (omega arith) ∙ length_spelled x small in
+    length_behind disk at ∙ ap (λ (f : List ℕ). length_at f 0) whole ∙ length_prefix (spelled x) rest (omega arith) ∙ length_spelled x small in
     let behind : drop 2 (drop at disk) ≡ x ++ rest = ap (drop 2) whole in
     sym (take_at x rest l refl) ∙ (λ i. take (sym number i) (sym behind i))
 

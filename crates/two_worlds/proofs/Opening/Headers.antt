@@ -6,14 +6,14 @@ use Rattle.std.specs.Coded.{le_prop}
 use Rattle.pump_frame.specs.declared.row.SessionRow.{SessionRow}
 use Rattle.stable_buffer.specs.Stands.{is_version, HasHeader, LowStands, HighStands}
 
-version_at : (row : SessionRow) (role : ℕ) (front : List ℕ) (h : HasHeader row role front) → get_or (take 6 front) 5 0 ≡ h.version
-version_at row role front h = ap (λ (l : List ℕ). get_or l 5 0) h.mark
+version_at : (row : SessionRow) (role : ℕ) (prefix : List ℕ) (h : HasHeader row role prefix) → get_or (take 6 prefix) 5 0 ≡ h.version
+version_at row role prefix h = ap (λ (l : List ℕ). get_or l 5 0) h.mark
 
-pub header_is : (row : SessionRow) (role : ℕ) (front : List ℕ) → ∥ HasHeader row role front ∥₁ → HasHeader row role front
-header_is row role front some = record {
-  version = get_or (take 6 front) 5 0;
-  known = ∥∥₁_elim some (hlevel props) (λ h. subst (λ (v : ℕ). is_version row v ≡ true) (sym (version_at row role front h)) h.known);
-  mark = ∥∥₁_elim some (hlevel props) (λ h. h.mark ∙ ap (λ (v : ℕ). 78 ∷ 80 ∷ 68 ∷ 49 ∷ role ∷ v ∷ []) (sym (version_at row role front h)));
+pub header_is : (row : SessionRow) (role : ℕ) (prefix : List ℕ) → ∥ HasHeader row role prefix ∥₁ → HasHeader row role prefix
+header_is row role prefix some = record {
+  version = get_or (take 6 prefix) 5 0;
+  known = ∥∥₁_elim some (hlevel props) (λ h. subst (λ (v : ℕ). is_version row v ≡ true) (sym (version_at row role prefix h)) h.known);
+  mark = ∥∥₁_elim some (hlevel props) (λ h. h.mark ∙ ap (λ (v : ℕ). 78 ∷ 80 ∷ 68 ∷ 49 ∷ role ∷ v ∷ []) (sym (version_at row role prefix h)));
   numbers = ∥∥₁_elim some (hlevel props) (λ h. h.numbers);
 }
 

@@ -20,11 +20,11 @@ whole row Recv = omega arith
 
 new_stands : (row : SessionRow) (role : Role) → FormatStands row role 0 (new_bytes row role 0)
 new_stands row role =
-    let front = header_of row (role_byte role) 0 (second_of role) in
+    let prefix = header_of row (role_byte role) 0 (second_of role) in
     let rest : List ℕ = replicate (size_of row role - 80) 0 in
     let size = header_length row (role_byte role) 0 (second_of role) in
     let left = length-replicate {A = ℕ} (size_of row role - 80) 0 in
-    fresh_stands row role 0 (new_bytes row role 0) (omega arith) (λ is. refl) (take_at front rest 80 size) (length-append front rest ∙ omega (arith, size, left, whole row role))
+    fresh_stands row role 0 (new_bytes row role 0) (omega arith) (λ is. refl) (take_at prefix rest 80 size) (length-append prefix rest ∙ omega (arith, size, left, whole row role))
 
 pub nothing_stands : (row : SessionRow) → IsLawfulRow row → StandForFound row nothing_found (new_bytes row Low 0) (new_bytes row High 0) (new_bytes row Recv 0)
 nothing_stands row lawful = record {

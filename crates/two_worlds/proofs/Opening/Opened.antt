@@ -51,8 +51,8 @@ use Rattle.two_worlds.specs.Private.Opened.{AreOpened}
 
 -- ---- the messages that are dealt out ----
 
-front_of : (acc : List Payload) (b : ℕ) (m : Payload) (ms : List Payload) → m ∷ ms ≡ drop b acc → slice_get acc b ≡ Some m
-front_of acc b m ms is = sym (slice_get-drop b acc 0 b (omega arith)) ∙ ap (λ (l : List Payload). slice_get l 0) (sym is)
+prefix_of : (acc : List Payload) (b : ℕ) (m : Payload) (ms : List Payload) → m ∷ ms ≡ drop b acc → slice_get acc b ≡ Some m
+prefix_of acc b m ms is = sym (slice_get-drop b acc 0 b (omega arith)) ∙ ap (λ (l : List Payload). slice_get l 0) (sym is)
 
 rest_of : (acc : List Payload) (b : ℕ) (m : Payload) (ms : List Payload) → m ∷ ms ≡ drop b acc → ms ≡ drop (b + 1) acc
 rest_of [] zero m ms is = absurd (cc)
@@ -63,7 +63,7 @@ rest_of (x ∷ acc) (suc b) m ms is = let e : suc (b + 1) ≡ suc b + 1 = omega 
 -- each item has the accepted message of its number
 all_accepted : (acc : List Payload) (b : ℕ) (ms : List Payload) → ms ≡ drop b acc → AllByRecursion (IsAccepted acc) (numbered b ms)
 all_accepted acc b [] is = tt
-all_accepted acc b (m ∷ ms) is = (front_of acc b m ms is, all_accepted acc (b + 1) ms (rest_of acc b m ms is))
+all_accepted acc b (m ∷ ms) is = (prefix_of acc b m ms is, all_accepted acc (b + 1) ms (rest_of acc b m ms is))
 
 hand_accepted : (acc : List Payload) (xs : List Item) (k : ℕ) → AllByRecursion (IsAccepted acc) xs → IsAcceptedHand acc (slice_get xs k)
 hand_accepted acc [] k all = tt

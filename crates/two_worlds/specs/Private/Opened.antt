@@ -35,12 +35,17 @@ pub record AreOpened {D : Type 0} (m : Meaning D) (c : Parts D) (lives : Opening
   pub recv_size_is : recv_size c.receiver ≡ receiver_size
   -- the messages of the low disk
   pub messages : List Payload
-  pub stands : m.tells → LowStands c.row (low_count c.low_store) (high_count c.high_store) messages (m.reading (low_disk c.low_store))
+  pub stands : m.tells → LowStands c.row (low_count c.low_store) (high_count c.high_store) messages
+      (m.reading (low_disk c.low_store))
   pub count : high_count c.high_store + length messages ≡ low_count c.low_store
   pub places : low_count c.low_store ≤ high_count c.high_store + c.row.capacity
   pub short : All (λ message. length message ≤ c.row.message) messages
-  pub hands : InHands c.row.capacity (numbered (high_count c.high_store) messages) (high.hand_of c.high) (low.hand_of c.low)
-  pub ends : EndsStand c.ends (record new_low { forwarded = passing c.row.capacity (numbered (high_count c.high_store) messages) }) new_high
+  pub hands : InHands c.row.capacity (numbered (high_count c.high_store) messages) (high.hand_of c.high)
+      (low.hand_of c.low)
+  pub ends : EndsStand c.ends (record new_low {
+    forwarded = passing c.row.capacity (numbered (high_count c.high_store)
+        messages);
+  }) new_high
   pub shape : shape_of c.ends ≡ shape_of_row c.row
   -- the processes
   pub history : low.StandsFor c.low (lives (low.opening_of (low_count c.low_store) (low.hand_of c.low)))

@@ -29,7 +29,8 @@ readied_disk (Err failed) = failed.0
 
 -- the stores of a pump are open over disks with these readings, and its messages are in the hands and
 -- the passage
-pub record PumpOpens {D : Type 0} (m : Meaning D) (row : SessionRow) (low high : List ℕ) (o : Opened D) (ends : PlainEnds) : Type 0 where
+pub record PumpOpens {D : Type 0} (m : Meaning D) (row : SessionRow) (low high : List ℕ) (o : Opened D)
+    (ends : PlainEnds) : Type 0 where
   pub ready_low : IsLowReady m o.low
   pub ready_high : IsHighReady m o.high
   pub row_is : low_row o.low ≡ row
@@ -42,17 +43,20 @@ pub record PumpOpens {D : Type 0} (m : Meaning D) (row : SessionRow) (low high :
   pub short : All (λ message. length message ≤ row.message) messages
   pub hands : InHands row.capacity (numbered o.removed messages) o.high_hand o.low_hand
   pub fit : HandsFit row.capacity o.removed o.next o.high_hand o.low_hand
-  pub ends_stand : EndsStand ends (record new_low { forwarded = passing row.capacity (numbered o.removed messages) }) new_high
+  pub ends_stand : EndsStand ends (record new_low { forwarded = passing row.capacity (numbered o.removed messages) })
+      new_high
   pub shape : shape_of ends ≡ shape_of_row row
 
 -- the receiver is open over a disk with this reading, and its messages are those of low's disk
-pub record ReceiverOpens {D : Type 0} (m : Meaning D) (row : SessionRow) (low recv : List ℕ) (removed next : ℕ) (r : Receiver D) : Type 0 where
+pub record ReceiverOpens {D : Type 0} (m : Meaning D) (row : SessionRow) (low recv : List ℕ) (removed next : ℕ)
+    (r : Receiver D) : Type 0 where
   pub ready : IsRecvReady m r
   pub row_is : recv_row r ≡ row
   pub size : recv_size r ≡ receiver_size
   pub stands : m.tells → StandsForSome row recv
   pub between : (removed ≤ recv_count r) × (recv_count r ≤ next)
-  pub agrees : m.tells → (messages : List (List ℕ)) → RecvStands row messages recv → SlotsAgree row removed (recv_count r) messages low
+  pub agrees : m.tells → (messages : List (List ℕ)) → RecvStands row messages recv
+      → SlotsAgree row removed (recv_count r) messages low
 
 -- the disk of a role under what is open
 abbrev pub opened_disk : {D : Type 0} → Role → Opened D × Receiver D → D

@@ -36,7 +36,8 @@ ReopensFrom m old t p (Err (Disk role why)) = ⊥
 abbrev pub ReopensOn : {D : Type 0} → Meaning D → PumpState D → Result (Unit {0}) Stop → Type 0
 ReopensOn m t (Ok done) = IsOpenWith (λ d. ∥ Works m d ∥₁) t
 ReopensOn m t (Err Line) = ⊥
-ReopensOn m t (Err (Device role faults)) = (role ≡ roles.Recv) × (is_down_in t ≡ true) × (faults ≡ m.count (bare_disk role (disks_in t)))
+ReopensOn m t (Err (Device role faults)) = (role ≡ roles.Recv) × (is_down_in t ≡ true)
+    × (faults ≡ m.count (bare_disk role (disks_in t)))
 ReopensOn m t (Err (Full end size_of_message size)) = ⊥
 ReopensOn m t (Err (Disk role why)) = (role ≡ roles.Recv) × (is_down_in t ≡ true) × (is_device why ≡ false)
 
@@ -51,14 +52,16 @@ IsRestOf c (Open d) = d ≡ record c { receiver = d.receiver }
 IsRestOf c (Shut d) = d ≡ record (bare_of c) { recv = d.recv }
 
 -- the receiver of these parts was opened again, which led to this
-pub record Reopens {D : Type 0} (m : Meaning D) (c : Parts D) (t : PumpState D) (result : Result (Unit {0}) Stop) : Type 0 where
+pub record Reopens {D : Type 0} (m : Meaning D) (c : Parts D) (t : PumpState D) (result : Result (Unit {0}) Stop) : Type
+    0 where
   pub from : m.tells → (p : Past) → StandsIn m (Open c) p → ReopensFrom m (bare_of c) t p result
   pub on : ReopensOn m t result
   pub serve : DisksReopen m (bare_of c) (disks_in t) result
   pub rest : IsRestOf c t
 
 -- the receiver of these parts attached at this moment, which printed this and led to these
-pub record Reattaches {D : Type 0} (m : Meaning D) (c d : Parts D) (moment : ℕ) (printed : List Event) (result : Result (Unit {0}) Stop) : Type 0 where
+pub record Reattaches {D : Type 0} (m : Meaning D) (c d : Parts D) (moment : ℕ) (printed : List Event)
+    (result : Result (Unit {0}) Stop) : Type 0 where
   pub does : Does (Attaches c.row moment) (BreaksAttaching c.row moment) NeverOverfills m c d [] printed result
   pub works : WorksOn m d result
   pub serve : DisksServe m c d result

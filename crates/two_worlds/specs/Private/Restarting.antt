@@ -1,5 +1,6 @@
 -- Both processes of a pump are opened again: what becomes of it, by what is answered.
-use Rattle.std.specs.Prelude.{◌≡◌, ◌⊎◌, ℕ, Bool, ◌&&◌, ◌==◌, nat_le, if◌then◌else◌, true, false, [], ◌∷◌, Result, Ok, Err}
+use Rattle.std.specs.Prelude.{◌≡◌, ◌⊎◌, ℕ, Bool, ◌&&◌, ◌==◌, nat_le, if◌then◌else◌, true, false, [], ◌∷◌, Result, Ok}
+use Rattle.std.specs.Prelude.{Err}
 use Rattle.disk_model.specs.Disk.{Meaning}
 use Rattle.disk_model.specs.declared.name.Role.{Role}
 use Rattle.disk_model.specs.declared.name.Role.TheVariants as roles
@@ -33,7 +34,8 @@ stop_for role why = if is_device why then Device role (why_values why).0 else Di
 
 -- Over disks that tell what they hold, and stood for the past p: both processes begin again and this is
 -- told; or the disk of one of them failed, and nothing has happened.
-abbrev pub RestartsFrom : {D : Type 0} → Meaning D → BareDisks D → PumpState D → ℕ → Past → Result EventHead Stop → Type 0
+abbrev pub RestartsFrom : {D : Type 0} → Meaning D → BareDisks D → PumpState D → ℕ → Past → Result EventHead Stop
+    → Type 0
 RestartsFrom m old t moment p (Ok event) =
     (q : Past) × IsRestart old.row p moment q (event_of event ∷ []) × StandsIn m t q × LeavesFit m old (disks_in t) p q
 RestartsFrom m old t moment p (Err (Device role faults)) =

@@ -17,14 +17,17 @@ use Rattle.two_worlds.specs.Timely.{CanApply, CannotApply, opens_again}
 use Rattle.two_worlds.specs.Working.{Works, IsTooLong}
 
 -- so a line is applied to a pump whose disks tell what they hold, and which stood for the past p
-abbrev pub StateApplies : {D : Type 0} → Meaning D → PumpState D → PumpState D → ScriptLine → Past → List Event → Option Stop → Type 0
+abbrev pub StateApplies : {D : Type 0} → Meaning D → PumpState D → PumpState D → ScriptLine → Past → List Event
+    → Option Stop → Type 0
 StateApplies m s t line p printed None =
     (is_timely (disks_in s).row p line ≡ true)
-    × ((q : Past) × LineStep (disks_in s).row p line q printed × StandsIn m t q × LeavesFit m (disks_in s) (disks_in t) p q)
+    × ((q : Past) × LineStep (disks_in s).row p line q printed × StandsIn m t q
+    × LeavesFit m (disks_in s) (disks_in t) p q)
 StateApplies m s t line p printed (Some Line) = IsRefusedWhole (disks_in s).row p line × (printed ≡ []) × (t ≡ s)
 StateApplies m s t line p printed (Some (Device role faults)) =
     (is_timely (disks_in s).row p line ≡ true)
-    × ((q : Past) × Breaks (disks_in s).row p line role q printed × ((is_down_in t ≡ true) × Fails m (disks_in t) q role faults)
+    × ((q : Past) × Breaks (disks_in s).row p line role q printed
+    × ((is_down_in t ≡ true) × Fails m (disks_in t) q role faults)
     × LeavesFit m (disks_in s) (disks_in t) p q)
 StateApplies m s t line p printed (Some (Full end size_of_message size)) =
     (is_timely (disks_in s).row p line ≡ true)
@@ -33,7 +36,8 @@ StateApplies m s t line p printed (Some (Full end size_of_message size)) =
 StateApplies m s t line p printed (Some (Disk role why)) = ⊥
 
 -- .. and so, whatever the disks tell
-abbrev pub StateAppliesOn : {D : Type 0} → Meaning D → PumpState D → PumpState D → ScriptLine → List Event → Option Stop → Type 0
+abbrev pub StateAppliesOn : {D : Type 0} → Meaning D → PumpState D → PumpState D → ScriptLine → List Event → Option Stop
+    → Type 0
 StateAppliesOn m s t line printed None = IsOpenWith (λ c. CanApply c line) s × IsOpenWith (λ d. ∥ Works m d ∥₁) t
 StateAppliesOn m s t line printed (Some Line) = IsOpenWith (λ c. CannotApply c line) s × (printed ≡ []) × (t ≡ s)
 StateAppliesOn m s t line printed (Some (Device role faults)) =

@@ -128,8 +128,10 @@ impl LowParts {
     ghost use Rattle.script_reader.specs.Heads.{arriving_with, line_with, CanHold, CanHoldLine};
     ghost use Rattle.script_reader.specs.Lows.{first_of};
     ghost use Rattle.script_reader.specs.Scripts.{IsEndAlone};
-    ghost use Rattle.script_reader.specs.Alone.{PastAlone, fresh_alone, lost_alone, is_apt_alone, IsRefusedAlone, StepAlone, IsToldAt};
-    ghost use Rattle.two_worlds.specs.LowParts.{PartsStand, StandsForSome, HasAsked, AnsweredBy, Ends, NeverBars, Crowds, IsJoinedTold};
+    ghost use Rattle.script_reader.specs.Alone.{PastAlone, fresh_alone, lost_alone, is_apt_alone, IsRefusedAlone};
+    ghost use Rattle.script_reader.specs.Alone.{StepAlone, IsToldAt};
+    ghost use Rattle.two_worlds.specs.LowParts.{PartsStand, StandsForSome, HasAsked, AnsweredBy, Ends, NeverBars};
+    ghost use Rattle.two_worlds.specs.LowParts.{Crowds, IsJoinedTold};
     ghost use Rattle.two_worlds.specs.Printing.{lines_in};
 
     /// The parts before the first line, with `next` messages stored, of which the last is held or not.
@@ -186,7 +188,8 @@ impl LowParts {
 
     /// The same of a `told` line, and a coarse session is told no average but a level.
     fn is_apt(&self, session: u32, moment: u64, told: ToldFeedback) -> bool
-        ensures { result ≡ (session == self.now.row.id && (nat_le self.now.moment moment && tells_level self.now.row told)) }
+        ensures { result ≡ (session == self.now.row.id && (nat_le self.now.moment moment && tells_level self.now.row
+            told)) }
     {
         self.is_timely(session, moment) && tells_level(&self.row, told)
     }
@@ -197,7 +200,8 @@ impl LowParts {
         requires told { IsLawfulFeedback told }
         requires row { IsLawfulRow self.old.row }
         ensures answered { AnsweredBy self.old.row told self.old.process self.new.process
-            (ask_with (row_of self.old.process) self.old.process head.old ask) (look_with (row_of self.old.process) head.new) }
+            (ask_with (row_of self.old.process) self.old.process head.old ask) (look_with (row_of self.old.process)
+            head.new) }
         ensures rest { self.new ≡ record self.old { process = self.new.process } }
         ensures of_row { row_of self.new.process ≡ row_of self.old.process }
     {
@@ -279,7 +283,8 @@ impl LowParts {
         requires room { CanHold arriving.now bytes.now }
         requires out { out.old.items ≡ [] }
         ensures ends { Ends self.old self.new (Crowds self.old.row fault (arriving_with bytes.now arriving.now))
-            (IsJoinedTold self.old.row moment word fault told (arriving_with bytes.now arriving.now)) (lines_in out.new.items) result }
+            (IsJoinedTold self.old.row moment word fault told (arriving_with bytes.now arriving.now))
+            (lines_in out.new.items) result }
         ensures row { self.new.row ≡ self.old.row }
     {
         if !self.connection.join(self.row.id, arriving, bytes) {
@@ -315,7 +320,8 @@ impl LowParts {
         requires stands { ∥ StandsForSome self.old ∥₁ }
         ensures ends { Ends self.old self.new (λ p. IsRefusedAlone self.old.row p (line_with bytes.now line.now))
             (λ p is_fault q printed. (is_apt_alone self.old.row p (line_with bytes.now line.now) ≡ true)
-            × StepAlone self.old.row p (line_with bytes.now line.now) is_fault q printed) (lines_in out.new.items) result }
+            × StepAlone self.old.row p (line_with bytes.now line.now) is_fault q printed) (lines_in out.new.items)
+            result }
         ensures row { self.new.row ≡ self.old.row }
     {
         out.clear();

@@ -32,10 +32,12 @@ impl<D: Disk> Parts<D> {
         requires out { length out.old.items ≤ 3 }
         ensures does { Does (λ p q printed. IsCarried self.old.row p back q printed)
             (λ role p q printed. (role ≡ roles.Recv) × IsUntaken p back q × (printed ≡ []))
-            (λ p q printed end size_of_message size. (q ≡ p) × IsOverfull p.world back end size_of_message size × (printed ≡ []))
+            (λ p q printed end size_of_message size. (q ≡ p) × IsOverfull p.world back end size_of_message size
+            × (printed ≡ []))
             D.told self.old self.new (lines_in out.old.items) (lines_in out.new.items) result }
         ensures works { WorksOn D.told self.new result }
-        ensures ahead { RefusesAhead self.old self.new (lines.Carry self.old.row.id back) (lines_in out.old.items) (lines_in out.new.items) }
+        ensures ahead { RefusesAhead self.old self.new (lines.Carry self.old.row.id back) (lines_in out.old.items)
+            (lines_in out.new.items) }
         ensures serve { DisksServe D.told self.old self.new result }
         ensures low { LeavesAlone roles.Low self.old self.new }
         ensures high { LeavesAlone roles.High self.old self.new }

@@ -1,6 +1,7 @@
 //! A high look of a pump.
 
-ghost use Rattle.std.specs.Prelude.{◌≡◌, ℕ, Bool, ◌+◌, ◌^◌, ◌<◌, ◌≤◌, ◌++◌, true, is_some, [], Option, None, Some, length, slice_get};
+ghost use Rattle.std.specs.Prelude.{◌≡◌, ℕ, Bool, ◌+◌, ◌^◌, ◌<◌, ◌≤◌, ◌++◌, true, is_some, [], Option, None, Some};
+ghost use Rattle.std.specs.Prelude.{length, slice_get};
 ghost use Rattle.disk_model.specs.declared.name.Role.TheVariants as roles;
 ghost use Rattle.high_process.specs.States as high;
 ghost use Rattle.high_process.specs.Tasks.{frame_of};
@@ -18,7 +19,8 @@ ghost use Rattle.two_worlds.specs.Private.LineSteps.{RefusesAhead};
 ghost use Rattle.two_worlds.specs.Private.Serving.{DisksServe};
 ghost use Rattle.two_worlds.specs.Timely.{goes_on_by};
 ghost use Rattle.two_worlds.specs.Printing.{lines_in};
-ghost use Rattle.two_worlds.specs.Private.HighLooks.{ComesBack, LeadsWith, BreaksWith, Attaches, BreaksAttaching, frame_when, most_lines, printed_look, packets_after};
+ghost use Rattle.two_worlds.specs.Private.HighLooks.{ComesBack, LeadsWith, BreaksWith, Attaches, BreaksAttaching};
+ghost use Rattle.two_worlds.specs.Private.HighLooks.{frame_when, most_lines, printed_look, packets_after};
 
 use crate::applied::Stop;
 use crate::printing::put;
@@ -83,14 +85,17 @@ impl<D: Disk> Parts<D> {
         requires order { self.old.moment ≤ moment }
         requires moment { moment ≤ 2 ^ 62 }
         requires back { (p : Past) → Stands D.told self.old p
-            → (attaches : Bool) × (back : Option ℕ) × ComesBack self.old.row.id p.world attaches (frame_when comes_back self.old.taken) back }
+            → (attaches : Bool) × (back : Option ℕ)
+            × ComesBack self.old.row.id p.world attaches (frame_when comes_back self.old.taken) back }
         requires out { length out.old.items + most_lines (frame_when comes_back self.old.taken) ≤ 4 }
         ensures does { (p : Past) → Stands D.told self.old p
-            → (attaches : Bool) (back : Option ℕ) → ComesBack self.old.row.id p.world attaches (frame_when comes_back self.old.taken) back
+            → (attaches : Bool) (back : Option ℕ)
+            → ComesBack self.old.row.id p.world attaches (frame_when comes_back self.old.taken) back
             → DoesFrom (LeadsWith self.old.row moment attaches back) (BreaksWith moment back) NeverOverfills
             D.told self.old self.new (lines_in out.old.items) (lines_in out.new.items) p result }
         ensures works { WorksOn D.told self.new result }
-        ensures ahead { (fault : HighFault) → high.task_at self.old.high (frame_when comes_back self.old.taken) ≡ Refuse fault
+        ensures ahead { (fault : HighFault) → high.task_at self.old.high (frame_when comes_back self.old.taken)
+            ≡ Refuse fault
             → (lines_in out.new.items ≡ lines_in out.old.items) × (bare_of self.new ≡ bare_of self.old) }
         ensures goes { is_some (high.hand_of self.new.high) ≡ true → goes_on_by self.old ≡ true }
         ensures serve { DisksServe D.told self.old self.new result }
@@ -130,7 +135,8 @@ impl<D: Disk> Parts<D> {
         requires moment { moment ≤ 2 ^ 62 }
         requires out { length out.old.items ≤ 3 }
         ensures does { Does (λ p q printed. IsHighLook self.old.row p moment None q printed)
-            NeverBreaks NeverOverfills D.told self.old self.new (lines_in out.old.items) (lines_in out.new.items) result }
+            NeverBreaks NeverOverfills D.told self.old self.new (lines_in out.old.items) (lines_in out.new.items)
+            result }
         ensures works { WorksOn D.told self.new result }
         ensures goes { is_some (high.hand_of self.new.high) ≡ true → goes_on_by self.old ≡ true }
         ensures serve { DisksServe D.told self.old self.new result }
@@ -171,7 +177,8 @@ impl<D: Disk> Parts<D> {
             × IsUnremoved p moment (Some (place p.world.returned back)) q × (printed ≡ []))
             NeverOverfills D.told self.old self.new (lines_in out.old.items) (lines_in out.new.items) result }
         ensures works { WorksOn D.told self.new result }
-        ensures ahead { RefusesAhead self.old self.new (lines.Return self.old.row.id moment back) (lines_in out.old.items) (lines_in out.new.items) }
+        ensures ahead { RefusesAhead self.old self.new (lines.Return self.old.row.id moment back)
+            (lines_in out.old.items) (lines_in out.new.items) }
         ensures serve { DisksServe D.told self.old self.new result }
         ensures low { LeavesAlone roles.Low self.old self.new }
         ensures recv { LeavesAlone roles.Recv self.old self.new }

@@ -14,7 +14,8 @@ ghost use Rattle.two_worlds.specs.Working.{IsAble};
 ghost use Rattle.two_worlds.specs.Doing.{Does, LeavesAlone};
 ghost use Rattle.two_worlds.specs.Private.GoingOn.{WorksOn};
 ghost use Rattle.two_worlds.specs.Private.Serving.{DisksServe};
-ghost use Rattle.two_worlds.specs.Private.LineSteps.{IsOverfullSent, Ran, Runs, RunsOn, Attempts, AttemptsOn, RefusesAhead, answer_of};
+ghost use Rattle.two_worlds.specs.Private.LineSteps.{IsOverfullSent, Ran, Runs, RunsOn, Attempts, AttemptsOn};
+ghost use Rattle.two_worlds.specs.Private.LineSteps.{RefusesAhead, answer_of};
 ghost use Rattle.two_worlds.specs.Timely.{goes_on_by, is_timely_by, opens_again};
 
 use crate::applied::Stop;
@@ -99,9 +100,11 @@ impl<D: Disk> Parts<D> {
         requires order { self.old.moment ≤ moment }
         requires moment { moment ≤ 2 ^ 62 }
         requires out { length out.old.items ≤ 0 }
-        ensures runs { Runs D.told self.old self.new (lines.Look self.old.row.id moment word (arriving_with bytes.now arriving.now))
+        ensures runs { Runs D.told self.old self.new (lines.Look self.old.row.id moment word
+            (arriving_with bytes.now arriving.now))
             (lines_in out.old.items) (lines_in out.new.items) result }
-        ensures on { RunsOn D.told self.old self.new (lines.Look self.old.row.id moment word (arriving_with bytes.now arriving.now))
+        ensures on { RunsOn D.told self.old self.new (lines.Look self.old.row.id moment word
+            (arriving_with bytes.now arriving.now))
             (lines_in out.old.items) (lines_in out.new.items) result }
         ensures serve { DisksServe D.told self.old self.new result }
         ensures row { self.new.row ≡ self.old.row }
@@ -194,7 +197,8 @@ impl<D: Disk> Parts<D> {
         requires stays { opens_again (line_with bytes.now line.now) ≡ false }
         requires timely { is_timely_by self.old (line_with bytes.now line.now) ≡ true }
         requires out { length out.old.items ≤ 0 }
-        ensures { Ran D.told self.old self.new (line_with bytes.now line.now) (lines_in out.old.items) (lines_in out.new.items) result }
+        ensures { Ran D.told self.old self.new (line_with bytes.now line.now) (lines_in out.old.items)
+            (lines_in out.new.items) result }
     {
         match line {
             LineHead::Skip
@@ -231,9 +235,12 @@ impl<D: Disk> Parts<D> {
         requires room { CanHoldLine line.now bytes.now }
         requires stays { opens_again (line_with bytes.now line.now) ≡ false }
         requires out { length out.old.items ≤ 0 }
-        ensures attempts { Attempts D.told self.old self.new (line_with bytes.now line.now) (lines_in out.old.items) (lines_in out.new.items) result }
-        ensures on { AttemptsOn D.told self.old self.new (line_with bytes.now line.now) (lines_in out.old.items) (lines_in out.new.items) result }
-        ensures ahead { RefusesAhead self.old self.new (line_with bytes.now line.now) (lines_in out.old.items) (lines_in out.new.items) }
+        ensures attempts { Attempts D.told self.old self.new (line_with bytes.now line.now) (lines_in out.old.items)
+            (lines_in out.new.items) result }
+        ensures on { AttemptsOn D.told self.old self.new (line_with bytes.now line.now) (lines_in out.old.items)
+            (lines_in out.new.items) result }
+        ensures ahead { RefusesAhead self.old self.new (line_with bytes.now line.now) (lines_in out.old.items)
+            (lines_in out.new.items) }
         ensures serve { DisksServe D.told self.old self.new result }
         ensures row { self.new.row ≡ self.old.row }
     {
@@ -255,10 +262,13 @@ impl<D: Disk> Parts<D> {
         requires lawful { IsLawfulLine (line_with bytes.now line.now) }
         requires room { CanHoldLine line.now bytes.now }
         requires stays { opens_again (line_with bytes.now line.now) ≡ false }
-        ensures attempts { Attempts D.told self.old self.new (line_with bytes.now line.now) [] (lines_in out.new.items) (answer_of result) }
-        ensures on { AttemptsOn D.told self.old self.new (line_with bytes.now line.now) [] (lines_in out.new.items) (answer_of result) }
+        ensures attempts { Attempts D.told self.old self.new (line_with bytes.now line.now) [] (lines_in out.new.items)
+            (answer_of result) }
+        ensures on { AttemptsOn D.told self.old self.new (line_with bytes.now line.now) [] (lines_in out.new.items)
+            (answer_of result) }
         ensures ahead { RefusesAhead self.old self.new (line_with bytes.now line.now) [] (lines_in out.new.items) }
-        ensures serve { DisksGo D.told self.old.row (disk_at roles.Low self.old) (disk_at roles.High self.old) (disk_at roles.Recv self.old)
+        ensures serve { DisksGo D.told self.old.row (disk_at roles.Low self.old) (disk_at roles.High self.old)
+            (disk_at roles.Recv self.old)
             (disk_at roles.Low self.new) (disk_at roles.High self.new) (disk_at roles.Recv self.new) result }
         ensures row { self.new.row ≡ self.old.row }
     {

@@ -63,7 +63,8 @@ impl<D: Disk> Parts<D> {
         requires moment { moment ≤ 2 ^ 62 }
         requires out { length out.old.items ≤ 1 }
         ensures does { Does (λ p q printed. IsLowLook self.old.row p moment 0 Gone q printed)
-            NeverBreaks NeverOverfills D.told self.old self.new (lines_in out.old.items) (lines_in out.new.items) result }
+            NeverBreaks NeverOverfills D.told self.old self.new (lines_in out.old.items) (lines_in out.new.items)
+            result }
         ensures works { WorksOn D.told self.new result }
         ensures serve { DisksServe D.told self.old self.new result }
         ensures row { self.new.row ≡ self.old.row }

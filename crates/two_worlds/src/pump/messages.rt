@@ -4,7 +4,8 @@ ghost use Rattle.std.specs.Prelude.{◌≡◌, ◌<◌, ◌≤◌, ◌+◌, true
 ghost use Rattle.disk_model.specs.Disk.{Moves, Same};
 ghost use Rattle.disk_model.specs.declared.name.Role.TheVariants as roles;
 ghost use Rattle.high_process.specs.States as high;
-ghost use Rattle.high_receiver.specs.Receiving.{IsRecvReady, recv_count, recv_disk, recv_end, recv_is_open, recv_row, recv_size, record_at};
+ghost use Rattle.high_receiver.specs.Receiving.{IsRecvReady, recv_count, recv_disk, recv_end, recv_is_open, recv_row};
+ghost use Rattle.high_receiver.specs.Receiving.{recv_size, record_at};
 ghost use Rattle.low_process.specs.Looks as low;
 ghost use Rattle.script_reader.specs.Past.{Past};
 ghost use Rattle.stable_buffer.specs.Low.{IsLowReady, low_count, low_disk, low_row};
@@ -27,14 +28,17 @@ impl<D: Disk> Parts<D> {
     fn live(&mut self, n: u64, into: &mut Payload) -> Result<(), Device>
         requires able { IsAble D.told self.old }
         requires live { (high.removed_of self.old.high ≤ n) × (n < low.next_of self.old.low) }
-        ensures message { OnOk result (D.told.tells → (p : Past) → Stands D.told self.old p → into.new ≡ slice_index_or p.world.accepted n []) }
+        ensures message { OnOk result (D.told.tells → (p : Past) → Stands D.told self.old p
+            → into.new ≡ slice_index_or p.world.accepted n []) }
         ensures rest { self.new ≡ record self.old { low_store = self.new.low_store } }
         ensures ready { OnOk result (IsLowReady D.told self.new.low_store) }
         ensures count { low_count self.new.low_store ≡ low_count self.old.low_store }
         ensures row { low_row self.new.low_store ≡ low_row self.old.low_store }
         ensures same { Moves D.told Same (low_disk self.old.low_store) (low_disk self.new.low_store) }
-        ensures serves { OnOk result (Serves D.told 0 (low_disk self.old.low_store) (low_disk self.new.low_store) false) }
-        ensures fails { OnErr result (Serves D.told 0 (low_disk self.old.low_store) (low_disk self.new.low_store) true) }
+        ensures serves { OnOk result (Serves D.told 0 (low_disk self.old.low_store) (low_disk self.new.low_store)
+            false) }
+        ensures fails { OnErr result (Serves D.told 0 (low_disk self.old.low_store) (low_disk self.new.low_store)
+            true) }
         ensures device { IfErr result (λ e. e.faults ≡ D.told.count (low_disk self.new.low_store)) }
     {
         if self.low.next() - n > u64::from(self.row.capacity) {
@@ -52,8 +56,10 @@ impl<D: Disk> Parts<D> {
         requires able { IsAble D.told self.old }
         requires taken { n < recv_count self.old.receiver }
         requires place { D.told.tells → (p : Past) → Stands D.told self.old p → at ≡ record_at p.world.received n }
-        ensures message { OnOk result (D.told.tells → (p : Past) → Stands D.told self.old p → into.new ≡ slice_index_or p.world.received n []) }
-        ensures next { IfOk result (λ next. D.told.tells → (p : Past) → Stands D.told self.old p → next ≡ record_at p.world.received (n + 1)) }
+        ensures message { OnOk result (D.told.tells → (p : Past) → Stands D.told self.old p
+            → into.new ≡ slice_index_or p.world.received n []) }
+        ensures next { IfOk result (λ next. D.told.tells → (p : Past) → Stands D.told self.old p
+            → next ≡ record_at p.world.received (n + 1)) }
         ensures rest { self.new ≡ record self.old { receiver = self.new.receiver } }
         ensures ready { OnOk result (IsRecvReady D.told self.new.receiver) }
         ensures count { recv_count self.new.receiver ≡ recv_count self.old.receiver }
@@ -61,8 +67,10 @@ impl<D: Disk> Parts<D> {
         ensures row { recv_row self.new.receiver ≡ recv_row self.old.receiver }
         ensures size { recv_size self.new.receiver ≡ recv_size self.old.receiver }
         ensures same { Moves D.told Same (recv_disk self.old.receiver) (recv_disk self.new.receiver) }
-        ensures serves { OnOk result (Serves D.told 0 (recv_disk self.old.receiver) (recv_disk self.new.receiver) false) }
-        ensures fails { OnErr result (Serves D.told 0 (recv_disk self.old.receiver) (recv_disk self.new.receiver) true) }
+        ensures serves { OnOk result (Serves D.told 0 (recv_disk self.old.receiver) (recv_disk self.new.receiver)
+            false) }
+        ensures fails { OnErr result (Serves D.told 0 (recv_disk self.old.receiver) (recv_disk self.new.receiver)
+            true) }
         ensures closed { OnErr result (recv_is_open self.new.receiver ≡ false) }
         ensures device { IfErr result (λ e. e.faults ≡ D.told.count (recv_disk self.new.receiver)) }
     {
@@ -87,7 +95,8 @@ impl<D: Disk> PumpState<D> {
     pub fn live(&mut self, n: u64, into: &mut Payload) -> Result<(), Device>
         requires able { IsOpenWith (IsAble D.told) self.old }
         requires live { ((counts_in self.old).1 ≤ n) × (n < (counts_in self.old).0) }
-        ensures message { OnOk result (D.told.tells → (p : Past) → StandsIn D.told self.old p → into.new ≡ slice_index_or p.world.accepted n []) }
+        ensures message { OnOk result (D.told.tells → (p : Past) → StandsIn D.told self.old p
+            → into.new ≡ slice_index_or p.world.accepted n []) }
         ensures reads { OnOk result (ReadsIn D.told roles.Low self.old self.new) }
         ensures able { OnOk result (IsOpenWith (IsAble D.told) self.new) }
         ensures fails { OnErr result (FailsToRead D.told roles.Low self.old self.new) }
@@ -111,8 +120,10 @@ impl<D: Disk> PumpState<D> {
         requires able { IsOpenWith (IsAble D.told) self.old }
         requires taken { n < (counts_in self.old).2 }
         requires place { D.told.tells → (p : Past) → StandsIn D.told self.old p → at ≡ record_at p.world.received n }
-        ensures message { OnOk result (D.told.tells → (p : Past) → StandsIn D.told self.old p → into.new ≡ slice_index_or p.world.received n []) }
-        ensures next { IfOk result (λ next. D.told.tells → (p : Past) → StandsIn D.told self.old p → next ≡ record_at p.world.received (n + 1)) }
+        ensures message { OnOk result (D.told.tells → (p : Past) → StandsIn D.told self.old p
+            → into.new ≡ slice_index_or p.world.received n []) }
+        ensures next { IfOk result (λ next. D.told.tells → (p : Past) → StandsIn D.told self.old p
+            → next ≡ record_at p.world.received (n + 1)) }
         ensures reads { OnOk result (ReadsIn D.told roles.Recv self.old self.new) }
         ensures able { OnOk result (IsOpenWith (IsAble D.told) self.new) }
         ensures fails { OnErr result (FailsToRead D.told roles.Recv self.old self.new) }

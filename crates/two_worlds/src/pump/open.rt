@@ -73,7 +73,13 @@ fn blamed<D: Disk>(low: &LowStore<D>) -> Role
 }
 
 fn refused<D: Disk>(role: Role, why: Why, pump: Opened<D>, recv: D) -> NotOpen<D>
-    ensures { result ≡ record { role = role; why = Some why; low = low_disk pump.low; high = high_disk pump.high; recv = recv } }
+    ensures { result ≡ record {
+      role = role;
+      why = Some why;
+      low = low_disk pump.low;
+      high = high_disk pump.high;
+      recv = recv;
+    } }
 {
     NotOpen {
         role,
@@ -95,10 +101,12 @@ pub(super) fn open_all<D: Disk>(
     requires shape { shape_of ends.old ≡ shape_of_row row.now }
     ensures pump { IfOk result (λ s. PumpOpens D.told row.now (D.told.reading disks.low) (D.told.reading disks.high)
         s.0 ends.new) }
-    ensures receiver { IfOk result (λ s. ReceiverOpens D.told row.now (D.told.reading disks.low) (D.told.reading disks.recv)
+    ensures receiver { IfOk result (λ s. ReceiverOpens D.told row.now (D.told.reading disks.low)
+        (D.told.reading disks.recv)
         s.0.removed s.0.next s.1) }
     ensures refused { IfErr result (λ e. IfSome e.why (λ why. is_device why ≡ false → D.told.tells
-        → IsRefused row.now (D.told.reading disks.low) (D.told.reading disks.high) (D.told.reading disks.recv) e.role why)) }
+        → IsRefused row.now (D.told.reading disks.low) (D.told.reading disks.high) (D.told.reading disks.recv) e.role
+        why)) }
     ensures device { IfErr result (λ e. IfSome e.why (λ why. is_device why ≡ true
         → why ≡ Device (D.told.count (disk_back e.role e)))) }
     ensures some { IfErr result (λ e. is_some e.why ≡ true) }
@@ -146,9 +154,11 @@ impl<D: Disk> Parts<D> {
         requires connection { memory.connection ≡ unused }
         requires sent { memory.sent ≡ buffer [] 64 }
         requires returned { memory.returned ≡ buffer [] 64 }
-        requires pump { PumpOpens D.told row.now (D.told.reading (low_disk pump.low)) (D.told.reading (high_disk pump.high))
+        requires pump { PumpOpens D.told row.now (D.told.reading (low_disk pump.low))
+            (D.told.reading (high_disk pump.high))
             pump memory.ends }
-        requires receiver { ReceiverOpens D.told row.now (D.told.reading (low_disk pump.low)) (D.told.reading (recv_disk receiver))
+        requires receiver { ReceiverOpens D.told row.now (D.told.reading (low_disk pump.low))
+            (D.told.reading (recv_disk receiver))
             pump.removed pump.next receiver }
         ensures opened { AreOpened D.told result first_life }
         ensures start { result.moment ≡ 0 }
@@ -191,13 +201,16 @@ impl<D: Disk> Parts<D> {
     ) -> Result<Parts<D>, NotOpen<D>>
         requires lawful { IsLawfulRow row.now }
         ensures works { IfOk result (λ parts. Works D.told parts) }
-        ensures opens { IfOk result (λ parts. D.told.tells → (f : Found) × DisksStandFor D.told row.now low high recv f) }
+        ensures opens { IfOk result (λ parts. D.told.tells → (f : Found)
+            × DisksStandFor D.told row.now low high recv f) }
         ensures stands { IfOk result (λ parts. D.told.tells → (f : Found) → DisksStandFor D.told row.now low high recv f
             → Stands D.told parts (first_past row.now f)) }
         ensures row { IfOk result (λ parts. parts.row ≡ row.now) }
         ensures low { IfOk result (λ parts. LeavesDisk D.told row.now roles.Low low (disk_at roles.Low parts) false) }
-        ensures high { IfOk result (λ parts. LeavesDisk D.told row.now roles.High high (disk_at roles.High parts) false) }
-        ensures recv { IfOk result (λ parts. LeavesDisk D.told row.now roles.Recv recv (disk_at roles.Recv parts) false) }
+        ensures high { IfOk result (λ parts. LeavesDisk D.told row.now roles.High high (disk_at roles.High parts)
+            false) }
+        ensures recv { IfOk result (λ parts. LeavesDisk D.told row.now roles.Recv recv (disk_at roles.Recv parts)
+            false) }
         ensures back { IfErr result (λ e. ComeBack D.told row.now low high recv e) }
     {
         let Ok(mut memory) = reserve(alloc, row) else {

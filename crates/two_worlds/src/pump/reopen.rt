@@ -78,7 +78,8 @@ impl<D: Disk> PumpState<D> {
         requires order { IsOpenWith (λ c. c.moment ≤ moment) self.old }
         requires moment { moment ≤ 2 ^ 62 }
         requires out { length out.old.items ≤ 0 }
-        ensures { IsOpenWith (λ c. IsOpenWith (λ d. Reattaches D.told c d moment (lines_in out.new.items) result) self.new) self.old }
+        ensures { IsOpenWith (λ c. IsOpenWith (λ d. Reattaches D.told c d moment (lines_in out.new.items) result)
+            self.new) self.old }
     {
         match self {
             PumpState::Open(parts) => parts.attach(moment, out),
@@ -99,9 +100,12 @@ impl<D: Disk> PumpState<D> {
         requires able { IsOpenWith (IsAble D.told) self.old }
         requires moment { moment ≤ 2 ^ 62 }
         ensures applies { D.told.tells → (p : Past) → StandsIn D.told self.old p
-            → StateApplies D.told self.old self.new (lines.ReceiverRestart session moment) p (lines_in out.new.items) result }
-        ensures on { StateAppliesOn D.told self.old self.new (lines.ReceiverRestart session moment) (lines_in out.new.items) result }
-        ensures serve { DisksGo D.told (disks_in self.old).row (disks_in self.old).low (disks_in self.old).high (disks_in self.old).recv
+            → StateApplies D.told self.old self.new (lines.ReceiverRestart session moment) p (lines_in out.new.items)
+            result }
+        ensures on { StateAppliesOn D.told self.old self.new (lines.ReceiverRestart session moment)
+            (lines_in out.new.items) result }
+        ensures serve { DisksGo D.told (disks_in self.old).row (disks_in self.old).low (disks_in self.old).high
+            (disks_in self.old).recv
             (disks_in self.new).low (disks_in self.new).high (disks_in self.new).recv result }
         ensures row { (disks_in self.new).row ≡ (disks_in self.old).row }
     {

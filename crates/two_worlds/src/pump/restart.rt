@@ -133,8 +133,10 @@ impl<D: Disk> PumpState<D> {
         requires moment { moment ≤ 2 ^ 62 }
         ensures applies { D.told.tells → (p : Past) → StandsIn D.told self.old p
             → StateApplies D.told self.old self.new (lines.Restart session moment) p (lines_in out.new.items) result }
-        ensures on { StateAppliesOn D.told self.old self.new (lines.Restart session moment) (lines_in out.new.items) result }
-        ensures serve { DisksGo D.told (disks_in self.old).row (disks_in self.old).low (disks_in self.old).high (disks_in self.old).recv
+        ensures on { StateAppliesOn D.told self.old self.new (lines.Restart session moment) (lines_in out.new.items)
+            result }
+        ensures serve { DisksGo D.told (disks_in self.old).row (disks_in self.old).low (disks_in self.old).high
+            (disks_in self.old).recv
             (disks_in self.new).low (disks_in self.new).high (disks_in self.new).recv result }
         ensures row { (disks_in self.new).row ≡ (disks_in self.old).row }
     {

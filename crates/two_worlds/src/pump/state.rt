@@ -74,9 +74,11 @@ impl<D: Disk> PumpState<D> {
         requires room { CanHoldLine line.now bytes.now }
         ensures applies { D.told.tells → (p : Past) → StandsIn D.told self.old p
             → StateApplies D.told self.old self.new (line_with bytes.now line.now) p (lines_in out.new.items) result }
-        ensures on { StateAppliesOn D.told self.old self.new (line_with bytes.now line.now) (lines_in out.new.items) result }
+        ensures on { StateAppliesOn D.told self.old self.new (line_with bytes.now line.now) (lines_in out.new.items)
+            result }
         ensures ahead { RefusesAheadIn self.old self.new (line_with bytes.now line.now) [] (lines_in out.new.items) }
-        ensures serve { DisksGo D.told (disks_in self.old).row (disks_in self.old).low (disks_in self.old).high (disks_in self.old).recv
+        ensures serve { DisksGo D.told (disks_in self.old).row (disks_in self.old).low (disks_in self.old).high
+            (disks_in self.old).recv
             (disks_in self.new).low (disks_in self.new).high (disks_in self.new).recv result }
         ensures row { (disks_in self.new).row ≡ (disks_in self.old).row }
     {

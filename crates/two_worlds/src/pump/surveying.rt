@@ -84,9 +84,11 @@ fn read_live<D: Disk>(
     requires range { (from ≤ low_count low.old) × (low_count low.old ≤ from + row.now.capacity) }
     requires none { live.old.items ≡ [] }
     ensures count { OnOk result (from + length live.new.items ≡ low_count low.old) }
-    ensures stand { OnOk result (D.told.tells → InSlots row.now from live.new.items (D.told.reading (low_disk low.old))) }
+    ensures stand { OnOk result (D.told.tells
+        → InSlots row.now from live.new.items (D.told.reading (low_disk low.old))) }
     ensures long { IfErr result (λ e. IfSome e (λ why. is_device why ≡ false → D.told.tells
-        → (n : ℕ) × (from ≤ n) × (n < low_count low.old) × (row.now.message < length_at (D.told.reading (low_disk low.old)) (slot_of row.now n)))) }
+        → (n : ℕ) × (from ≤ n) × (n < low_count low.old)
+        × (row.now.message < length_at (D.told.reading (low_disk low.old)) (slot_of row.now n)))) }
     ensures device { IfErr result (λ e. IfSome e (λ why. is_device why ≡ true
         → Rose (D.told.count (low_disk low.old)) (D.told.count (low_disk low.new)))) }
     ensures counts { D.told.count (low_disk low.old) ≤ D.told.count (low_disk low.new) }

@@ -37,12 +37,12 @@ below_or_not n k = elim (nat_lt n k) as (λ b. nat_lt n k ≡ b → (n < k) ⊎ 
   | false ↦ λ e. inr (grind (arith, nat_tests))
 ] refl
 
--- what stands in a list stands in a front of it that is long enough
-in_front : (xs rest ys : List Payload) (n : ℕ) (x : Payload) → xs ++ rest ≡ ys → n < length xs → slice_get ys n ≡ Some x → slice_get xs n ≡ Some x
-in_front [] rest ys n x e less at = absurd (omega (arith, less))
-in_front (z ∷ xs) rest [] n x e less at = absurd (cc)
-in_front (z ∷ xs) rest (y ∷ ys) zero x e less at = ap (λ (l : List Payload). slice_get l 0) e ∙ at
-in_front (z ∷ xs) rest (y ∷ ys) (suc n) x e less at = in_front xs rest ys n x (ap (drop 1) e) (omega (arith, less)) at
+-- what stands in a list stands in a prefix of it that is long enough
+in_prefix : (xs rest ys : List Payload) (n : ℕ) (x : Payload) → xs ++ rest ≡ ys → n < length xs → slice_get ys n ≡ Some x → slice_get xs n ≡ Some x
+in_prefix [] rest ys n x e less at = absurd (omega (arith, less))
+in_prefix (z ∷ xs) rest [] n x e less at = absurd (cc)
+in_prefix (z ∷ xs) rest (y ∷ ys) zero x e less at = ap (λ (l : List Payload). slice_get l 0) e ∙ at
+in_prefix (z ∷ xs) rest (y ∷ ys) (suc n) x e less at = in_prefix xs rest ys n x (ap (drop 1) e) (omega (arith, less)) at
 
 module _ (row : SessionRow) (w : World) (low high recv : List ℕ) (stand : StandFor row w low high recv) where
   count_is : (value_of low).0 ≡ length w.accepted
@@ -62,19 +62,19 @@ module _ (row : SessionRow) (w : World) (low high recv : List ℕ) (stand : Stan
 
   outlives : (n : ℕ) (x : Payload) → slice_get w.accepted n ≡ Some x → Outlives row w.received low high n x
   outlives n x at = ⊎_elim
-      (λ below. (let more = stand.lawful.delivered.removed in let front = stand.lawful.delivered.prefix in inl (in_front w.received front.0 w.accepted n x front.1 (omega (arith, below, more)) at)))
+      (λ below. (let more = stand.lawful.delivered.removed in let prefix = stand.lawful.delivered.prefix in inl (in_prefix w.received prefix.0 w.accepted n x prefix.1 (omega (arith, below, more)) at)))
       (λ le. (let less = slice_get_within w.accepted n x at in inr (omega (arith, removed_is, le), omega (arith, count_is, less), in_slot n x at le)))
       (below_or_not n w.removed)
 
--- a crash of the receiver alone keeps a front of what was accepted
-received_front : (w : World) (taken : Bool) → IsLawful w → IsPrefixOf (receiver_crashed w (Some taken)).received w.accepted
-received_front w taken lawful = (stays_lawful w (Crash None (Some taken)) (receiver_crashed w (Some taken)) lawful refl).delivered.prefix
+-- a crash of the receiver alone keeps a prefix of what was accepted
+received_prefix : (w : World) (taken : Bool) → IsLawful w → IsPrefixOf (receiver_crashed w (Some taken)).received w.accepted
+received_prefix w taken lawful = (stays_lawful w (Crash None (Some taken)) (receiver_crashed w (Some taken)) lawful refl).delivered.prefix
 
 pub keeps_messages : (row : SessionRow) (w : World) (low high recv : List ℕ) → IsLawful w → StandForLeft row w low high recv → KeepMessages row w low high recv
 keeps_messages row w low high recv lawful (stored, removed, taken, stand) = record {
   received = (crashed w stored removed taken).received;
   recv_is = stand.recv_is;
-  front = received_front w taken lawful;
+  prefix = received_prefix w taken lawful;
   accepted = λ n x at. outlives row (crashed w stored removed taken) low high recv stand n x (kept_accepted stored w.storing w.accepted n x at);
   acknowledged = lawful.bounded.acknowledged;
 }

@@ -43,16 +43,16 @@ comes_more came taken waits behind c left =
 
 -- ---- what is offered ----
 
-front : (came : List Coming) (taken : ℕ) → first_of false (map arrived (drop taken came)) ≡ arrival_of_coming (slice_get came taken)
-front [] zero = refl
-front [] (suc n) = refl
-front (c ∷ came) zero = refl
-front (c ∷ came) (suc n) = front came n
+prefix : (came : List Coming) (taken : ℕ) → first_of false (map arrived (drop taken came)) ≡ arrival_of_coming (slice_get came taken)
+prefix [] zero = refl
+prefix [] (suc n) = refl
+prefix (c ∷ came) zero = refl
+prefix (c ∷ came) (suc n) = prefix came n
 
 offers : (behind : Bool) (came : List Coming) (taken : ℕ)
     → first_of behind (map arrived (drop taken came)) ≡ (if behind then Nothing else arrival_of_coming (slice_get came taken))
 offers true came taken = refl
-offers false came taken = front came taken
+offers false came taken = prefix came taken
 
 -- the session offers what the run does
 pub offered_first : (came : List Coming) (taken : ℕ) (waits : List Arrival) (behind : Bool) → AreLeft came taken waits behind

@@ -20,6 +20,9 @@ pub returns-in-Pump-clause-row : goal.returns-in-Pump-clause-row
 returns-in-Pump-clause-row g c = λ o all begun lacks h.
     read_row o all c.turns.lines c.next_head.new.self _ _ begun _ c.in-Pump.row (c.turns.invariant.0 o all begun lacks h) c.in-Line.ensures.next (c.in-Pump.ensures c.next_head.new.body).0
 
+pub returns-in-Pump-clause-held : goal.returns-in-Pump-clause-held
+returns-in-Pump-clause-held g c = let n = c.in-Line.ensures.next in omega (arith, n.5)
+
 pub returns-in-Wrongly-clause-halted : goal.returns-in-Wrongly-clause-halted
 returns-in-Wrongly-clause-halted g c = λ o all begun lacks h.
     let t = c.turns.invariant.0 o all begun lacks h in

@@ -6,7 +6,7 @@ use Rattle.disk_model.specs.Plain.{plain_meaning}
 use Rattle.high_receiver.specs.Receiving.{recv_disk, recv_row, recv_count}
 use Rattle.stable_buffer.specs.Log.{RecvStands}
 use Rattle.commands.specs.Messages.{message_lines, line_from}
-use Rattle.commands.proofs.Printed.{walked_more, count_is, stands_still, printed_none, printed_front}
+use Rattle.commands.proofs.Printed.{walked_more, count_is, stands_still, printed_none, printed_prefix}
 use Rattle.commands.proofs.messages.write_messages.Goals as goal
 
 pub loop-number-init : goal.loop-number-init
@@ -59,7 +59,7 @@ returns-in-Err-write_from g c = λ messages stands.
     let cause = c.in-Err-write_from.ensures.cause in
     inr (
       refl,
-      printed_front (g.O.Sink.written c.args.out.now) (g.O.Sink.written c.loop-number.out) (g.O.Sink.written c.write_from.new.out) c.args.session c.args.from n messages c.message.result.now low is (kept.wrote messages stands) c.in-Err-write_from.ensures.err,
+      printed_prefix (g.O.Sink.written c.args.out.now) (g.O.Sink.written c.loop-number.out) (g.O.Sink.written c.write_from.new.out) c.args.session c.args.from n messages c.message.result.now low is (kept.wrote messages stands) c.in-Err-write_from.ensures.err,
       omega (arith, kept.later, cause.later, cause.failed),
     )
 

@@ -1,6 +1,6 @@
 use Rattle.std.proofs.Common.{ℕ, List, ◌∙◌, subst}
 use Rattle.std.specs.Io.KnownBytes.{Appends}
-use Rattle.pump_link.specs.Causes.{AppendsFront}
+use Rattle.pump_link.specs.Causes.{AppendsPrefix}
 use Rattle.script_replay.specs.Failing.{FailsAt}
 use Rattle.commands.specs.Wrapping.{WrapsAll}
 use Rattle.commands.proofs.Wrapped.{names_failed_disk, writes}
@@ -21,5 +21,5 @@ returns-in-Err-clause-ends g c = λ told tells.
     let fails = FailsAt g.S.Shelf.told g.S.Disk.Disk.told c.args.shelf.now c.wrap_in_table-end.new.shelf in (
       c.wrap_in_table-end.result,
       (e.wraps told tells, e.gave, names_failed_disk fails c.args.session c.wrap_in_table-end.result e.device),
-      subst (λ (bytes : List ℕ). AppendsFront (g.O.Sink.written c.args.out.now) (g.O.Sink.written c.write_all.new.out) bytes) (c.as_slice.ensures.value ∙ c.put_send.ensures) c.in-Err.ensures.err,
+      subst (λ (bytes : List ℕ). AppendsPrefix (g.O.Sink.written c.args.out.now) (g.O.Sink.written c.write_all.new.out) bytes) (c.as_slice.ensures.value ∙ c.put_send.ensures) c.in-Err.ensures.err,
     )

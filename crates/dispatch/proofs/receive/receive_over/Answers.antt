@@ -4,7 +4,7 @@ use Rattle.pump_frame.specs.Counts.{Rose}
 use Rattle.pump_link.specs.Ports.{Connected, BackToPorts}
 use Rattle.pump_link.proofs.Grown.{Grows-then}
 use Rattle.stable_buffer.specs.Log.{RecvStands}
-use Rattle.peers.specs.Receiving.{StandsForFront, attempted, messages, place_of}
+use Rattle.peers.specs.Receiving.{StandsForPrefix, attempted, messages, place_of}
 use Rattle.two_worlds.proofs.Opening.Opened.{value_by}
 use Rattle.dispatch.proofs.Received.{sized}
 use Rattle.dispatch.proofs.Sent.{receives_device, receives_unwritten, receiver_never, receiver_role}
@@ -37,7 +37,7 @@ returns-clause-receives g c = λ tells.
         sent = sent;
         printed = printed;
         grown = λ sound list stands. subst (λ (d : g.row.D.Denot). RecvStands row (list ++ messages x.turns) (m.reading d)) disk (keeps.grown sound tells list stands);
-        kept = λ list stands. subst (λ (d : g.row.D.Denot). StandsForFront row list (attempted x e.result) (m.reading d)) disk (keeps.reads tells list stands);
+        kept = λ list stands. subst (λ (d : g.row.D.Denot). StandsForPrefix row list (attempted x e.result) (m.reading d)) disk (keeps.reads tells list stands);
       },
     )
 

@@ -1,7 +1,7 @@
 use Rattle.std.proofs.Common.{◌≡◌, ◌≤◌, ◌<◌, ◌∙◌, ◌+◌, min, length, [], refl, inl, inr, arith}
 use Rattle.std.proofs.KnownBytes.{Appends-nil}
 use Rattle.pump_link.proofs.Grown.{Draws-nil, Grows-nil}
-use Rattle.peers.proofs.Asking.{rose_earlier}
+use Rattle.peers.proofs.Awaited.{rose_earlier}
 use Rattle.peers.proofs.SendingLines.{counts, consumes_start, comes_some, read_ahead, done_ends, read_ends, script_ends, skip, acked, message_ends, message_earlier}
 use Rattle.peers.proofs.send.send_lines.Goals as goal
 

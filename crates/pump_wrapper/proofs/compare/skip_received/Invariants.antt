@@ -4,7 +4,7 @@ use Rattle.disk_model.specs.Disk.{Moves, Same}
 use Rattle.stable_buffer.specs.Log.{RecvStands}
 use Rattle.high_receiver.specs.Receiving.{IsRecvReady, IsRecordAt, recv_count, recv_disk, recv_end, recv_row, recv_size}
 use Rattle.pump_wrapper.specs.Comparing.{SameBytes}
-use Rattle.pump_wrapper.specs.Cutting.{MayCut, cut_message}
+use Rattle.pump_wrapper.specs.Cutting.{MayCut, cut_bytes, cut_message}
 use Rattle.pump_wrapper.proofs.Compared.{passed}
 use Rattle.pump_wrapper.proofs.compare.skip_received.Given as goal
 
@@ -26,5 +26,5 @@ invariant-loop-number g l =
       message : cut_message l.cutter ≡ cut_message l.fn.cutter;
       passed : m.tells → (messages : List (List ℕ)) → RecvStands (recv_row r) messages (m.reading (recv_disk r)) → passed (take l.number messages) l.fn.cutter l.cutter (g.I.Source.left l.fn.file) (g.I.Source.left l.file);
       same : SameBytes l.fn.cutter l.cutter (g.I.Source.left l.fn.file) (g.I.Source.left l.file);
-      bytes : (taken : List ℕ) × Consumes (g.I.Source.left l.fn.file) (g.I.Source.left l.file) taken × (l.cutter.bytes ≡ l.fn.cutter.bytes + length taken);
+      bytes : (taken : List ℕ) × Consumes (g.I.Source.left l.fn.file) (g.I.Source.left l.file) taken × (cut_bytes l.cutter ≡ cut_bytes l.fn.cutter + length taken);
     }

@@ -5,7 +5,7 @@ use Rattle.script_reader.specs.Openings.{accepted_in}
 use Rattle.script_reader.proofs.Opened.{row_capacity}
 use Rattle.two_worlds.specs.Pumps.{disk_at, row_of}
 use Rattle.two_worlds.proofs.Disks.Leaving.{leaves_alone}
-use Rattle.pump_wrapper.specs.Crashes.{HasFront}
+use Rattle.pump_wrapper.specs.Crashes.{HasPrefix}
 use Rattle.pump_wrapper.proofs.Drained.{turned_none, turned_more, turned_all, turn_keeps, turns_go, turns_few, counts_tell}
 use Rattle.pump_wrapper.proofs.Going.{rose_before}
 use Rattle.pump_wrapper.proofs.Joining.{keeps_then}
@@ -17,7 +17,7 @@ loop-number-init g c = record {
   row = refl;
   later = λ role. omega arith;
   turned = λ told f lawful can stands. turned_none g.D.Disk.told (row_of c.args.pump.now) f c.args.pump.now lawful can stands;
-  keeps = λ told f lawful can stands all begins. leaves_alone g.D.Disk.told (HasFront (row_of c.args.pump.now) all) (disk_at roles.Recv c.args.pump.now) (disk_at roles.Recv c.args.pump.now) refl;
+  keeps = λ told f lawful can stands all begins. leaves_alone g.D.Disk.told (HasPrefix (row_of c.args.pump.now) all) (disk_at roles.Recv c.args.pump.now) (disk_at roles.Recv c.args.pump.now) refl;
 }
 
 pub loop-number-preserved : goal.loop-number-preserved

@@ -5,7 +5,7 @@ use Rattle.pump_frame.specs.Rows.{IsLawfulRow}
 use Rattle.script_reader.specs.Openings.{Found, CanOpen, accepted_in, first_past}
 use Rattle.two_worlds.specs.Pumps.{StandsFor, disk_at, is_down, row_of}
 use Rattle.pump_wrapper.specs.Comparing.{Begins}
-use Rattle.pump_wrapper.specs.Crashes.{KeepsFront}
+use Rattle.pump_wrapper.specs.Crashes.{KeepsPrefix}
 use Rattle.pump_wrapper.proofs.Drained.{Turned}
 use Rattle.pump_wrapper.proofs.drain.drain.Given as goal
 
@@ -19,5 +19,5 @@ invariant-loop-number g l =
       later : (role : Role) → m.count (disk_at role l.fn.pump) ≤ m.count (disk_at role l.pump);
       turned : m.tells → (f : Found) → IsLawfulRow r → CanOpen r f → StandsFor m l.fn.pump (first_past r f) → Turned m l.pump r f l.number;
       keeps : m.tells → (f : Found) → IsLawfulRow r → CanOpen r f → StandsFor m l.fn.pump (first_past r f) → (all : List (List ℕ)) → Begins (accepted_in f) all
-          → KeepsFront m r all (disk_at roles.Recv l.fn.pump) (disk_at roles.Recv l.pump);
+          → KeepsPrefix m r all (disk_at roles.Recv l.fn.pump) (disk_at roles.Recv l.pump);
     }

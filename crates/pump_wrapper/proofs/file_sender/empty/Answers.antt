@@ -5,7 +5,7 @@ use Rattle.pump_frame.specs.declared.row.SessionRow.{SessionRow}
 use Rattle.script_reader.specs.Openings.{CanOpen, first_past}
 use Rattle.world_laws.specs.Disks.{LeaveWorld}
 use Rattle.two_worlds.specs.Pumps.{StandsFor, disk_at}
-use Rattle.pump_wrapper.specs.Crashes.{KeepsFront}
+use Rattle.pump_wrapper.specs.Crashes.{KeepsPrefix}
 use Rattle.pump_wrapper.specs.Wraps.{Drains, HasAll}
 use Rattle.pump_wrapper.proofs.Emptied.{empties, stops_early}
 use Rattle.pump_wrapper.proofs.file_sender.empty.Goals as goal
@@ -23,7 +23,7 @@ returns-in-Ok-clause-empties g c =
     (λ told messages q stands passed. subst (λ (r : SessionRow). HasAll m r messages c.close-disks.result) same (closed.all told messages q stands passed))
     (λ q stands. subst (λ (r : SessionRow). LeaveWorld m r q.world c.close-disks.result.low c.close-disks.result.high c.close-disks.result.recv) same (closed.left q stands))
     opened.recv
-    (λ told f found all begins. subst (λ (r : SessionRow). KeepsFront m r all (disk_at roles.Recv s) (disk_at roles.Recv c.drain-drained.new.pump)) opened.row (drained.keeps told f
+    (λ told f found all begins. subst (λ (r : SessionRow). KeepsPrefix m r all (disk_at roles.Recv s) (disk_at roles.Recv c.drain-drained.new.pump)) opened.row (drained.keeps told f
     (subst IsLawfulRow (sym opened.row) c.requires.lawful)
     (subst (λ (r : SessionRow). CanOpen r f) (sym opened.row) found.can_open)
     (subst (λ (r : SessionRow). StandsFor m s (first_past r f)) (sym opened.row) (opened.stands told f found)) all begins))
@@ -45,7 +45,7 @@ returns-in-Err-clause-not g c =
     (λ told messages q stands passed. subst (λ (r : SessionRow). HasAll m r messages c.close-disks.result) same (closed.all told messages q stands passed))
     (λ q stands. subst (λ (r : SessionRow). LeaveWorld m r q.world c.close-disks.result.low c.close-disks.result.high c.close-disks.result.recv) same (closed.left q stands))
     opened.recv
-    (λ told f found all begins. subst (λ (r : SessionRow). KeepsFront m r all (disk_at roles.Recv s) (disk_at roles.Recv c.drain-drained.new.pump)) opened.row (drained.keeps told f
+    (λ told f found all begins. subst (λ (r : SessionRow). KeepsPrefix m r all (disk_at roles.Recv s) (disk_at roles.Recv c.drain-drained.new.pump)) opened.row (drained.keeps told f
     (subst IsLawfulRow (sym opened.row) c.requires.lawful)
     (subst (λ (r : SessionRow). CanOpen r f) (sym opened.row) found.can_open)
     (subst (λ (r : SessionRow). StandsFor m s (first_past r f)) (sym opened.row) (opened.stands told f found)) all begins))

@@ -5,13 +5,13 @@ use Rattle.pump_frame.specs.declared.row.SessionRow.{SessionRow}
 use Rattle.script_reader.specs.Openings.{CanOpen, first_past}
 use Rattle.world_laws.specs.Disks.{LeaveWorld}
 use Rattle.two_worlds.specs.Pumps.{StandsFor, disk_at}
-use Rattle.pump_wrapper.specs.Crashes.{KeepsFront}
+use Rattle.pump_wrapper.specs.Crashes.{KeepsPrefix}
 use Rattle.pump_wrapper.specs.Cutting.{Gave, cut_bytes}
 use Rattle.pump_wrapper.specs.Wraps.{HasAll, Sends, all_taken, is_too_long}
 use Rattle.pump_wrapper.specs.WrapEnds.{EndsOn, HasDiskCause}
 use Rattle.pump_wrapper.specs.declared.file_sender.WrapEnd.{WrapEnd}
-use Rattle.pump_wrapper.proofs.Ending.{all_end, early_read, early_sent, front_again, long_sent, none_gave, read_sent, sent_cause, sent_ends, sent_front}
-use Rattle.pump_wrapper.proofs.Fronts.{begins_same, begins_then}
+use Rattle.pump_wrapper.proofs.Ending.{all_end, early_read, early_sent, prefix_again, long_sent, none_gave, read_sent, sent_cause, sent_ends, sent_prefix}
+use Rattle.pump_wrapper.proofs.Prefixes.{begins_same, begins_then}
 use Rattle.pump_wrapper.proofs.Holding.{stand_for_all}
 use Rattle.pump_wrapper.proofs.Joining.{keeps_then, left_keeps}
 use Rattle.pump_wrapper.proofs.Wholes.{sent_disks}
@@ -27,10 +27,10 @@ returns-in-Err-clause-ends g c = λ told messages has whole continues.
     all_end m row messages whole c.args.disks c.in-Err.failed.disks c.in-Err.failed.end has (c.in-Err.ensures.not.ends told whole (all_taken messages) (stand_for_all m row messages c.args.disks has))
 
 pub returns-in-Err-clause-images : goal.returns-in-Err-clause-images
-returns-in-Err-clause-images g c = λ told messages has front all begins continues.
+returns-in-Err-clause-images g c = λ told messages has prefix all begins continues.
     let m = g.D.Disk.told in
     let row = c.args.row.now in
-    front_again m row messages all c.args.disks c.in-Err.failed.disks c.in-Err.failed.end front begins
+    prefix_again m row messages all c.args.disks c.in-Err.failed.disks c.in-Err.failed.end prefix begins
     (c.in-Err.ensures.not.images told (all_taken messages) (stand_for_all m row messages c.args.disks has) all)
 
 pub returns-in-Err-clause-keeps : goal.returns-in-Err-clause-keeps
@@ -41,7 +41,7 @@ returns-in-Err-clause-keeps g c = λ told messages has all begins continues.
     (begins_then _ messages all (begins_same _ messages (sym (append-nil messages))) begins)
 
 pub returns-in-Err-clause-gave : goal.returns-in-Err-clause-gave
-returns-in-Err-clause-gave g c = none_gave c.args.cutter.now.bytes (g.I.Source.left c.args.file.now) c.in-Err.failed.end c.requires.may.few c.in-Err.ensures.not.early
+returns-in-Err-clause-gave g c = none_gave (cut_bytes c.args.cutter.now) (g.I.Source.left c.args.file.now) c.in-Err.failed.end c.requires.may.few c.in-Err.ensures.not.early
 
 pub returns-in-Err-clause-read : goal.returns-in-Err-clause-read
 returns-in-Err-clause-read g c = λ e. absurd (early_read c.in-Err.failed.end c.in-Err.ensures.not.early e)
@@ -80,7 +80,7 @@ returns-clause-ends g c = λ told messages has whole continues.
     (subst (λ (r : SessionRow). Sends m c.send_rest-sent.new.pump r messages c.args.cutter.now left c.send_rest-sent.result) e.row sends) told continues)
 
 pub returns-clause-images : goal.returns-clause-images
-returns-clause-images g c = λ told messages has front all begins continues.
+returns-clause-images g c = λ told messages has prefix all begins continues.
     let m = g.D.Disk.told in
     let row = c.args.row.now in
     let e = c.in-Ok.ensures in
@@ -91,14 +91,14 @@ returns-clause-images g c = λ told messages has front all begins continues.
     (subst IsLawfulRow (sym e.row) c.requires.lawful)
     (subst (λ (r : SessionRow). CanOpen r (all_taken messages)) (sym e.row) has.can_open)
     (subst (λ (r : SessionRow). StandsFor m c.in-Ok.pump (first_past r (all_taken messages))) (sym e.row) (e.stands tells (all_taken messages) (stand_for_all m row messages c.args.disks has))) in
-    sent_front m row c.close.result c.send_rest-sent.new.pump messages c.args.cutter.now left c.bytes.result
+    sent_prefix m row c.close.result c.send_rest-sent.new.pump messages c.args.cutter.now left c.bytes.result
     (λ all q stands passed. subst (λ (r : SessionRow). HasAll m r all c.close.result) (s.row ∙ e.row) (c.close.ensures.all tells all q stands passed))
     (λ q stands. subst (λ (r : SessionRow). LeaveWorld m r q.world c.close.result.low c.close.result.high c.close.result.recv) (s.row ∙ e.row) (c.close.ensures.left q stands))
     all c.send_rest-sent.result
     (subst (λ (r : SessionRow). Sends m c.send_rest-sent.new.pump r messages c.args.cutter.now left c.send_rest-sent.result) e.row sends) told continues
 
 pub returns-clause-keeps : goal.returns-clause-keeps
-returns-clause-keeps g c = λ told messages has all begins continues some front.
+returns-clause-keeps g c = λ told messages has all begins continues some prefix.
     let m = g.D.Disk.told in
     let row = c.args.row.now in
     let e = c.in-Ok.ensures in
@@ -111,9 +111,9 @@ returns-clause-keeps g c = λ told messages has all begins continues some front.
     (subst IsLawfulRow (sym e.row) c.requires.lawful)
     (subst (λ (r : SessionRow). CanOpen r (all_taken messages)) (sym e.row) has.can_open)
     (subst (λ (r : SessionRow). StandsFor m c.in-Ok.pump (first_past r (all_taken messages))) (sym e.row) (e.stands tells (all_taken messages) (stand_for_all m row messages c.args.disks has))) all continues in
-    keeps_then m row all old opened c.close.result.recv (left_keeps m row all old opened false e.recv tells some (λ told. front))
-    (subst (λ d. KeepsFront m row all opened d) (sym (c.close.ensures.disks roles.Recv))
-    (subst (λ (r : SessionRow). KeepsFront m r all opened last) e.row keeps))
+    keeps_then m row all old opened c.close.result.recv (left_keeps m row all old opened false e.recv tells some (λ told. prefix))
+    (subst (λ d. KeepsPrefix m row all opened d) (sym (c.close.ensures.disks roles.Recv))
+    (subst (λ (r : SessionRow). KeepsPrefix m r all opened last) e.row keeps))
 
 pub returns-clause-cause : goal.returns-clause-cause
 returns-clause-cause g c =

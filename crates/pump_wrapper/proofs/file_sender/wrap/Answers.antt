@@ -7,9 +7,9 @@ use Rattle.pump_wrapper.specs.declared.file_sender.WrapEnd.{WrapEnd}
 use Rattle.pump_wrapper.specs.Wrapped.{wrapped}
 use Rattle.pump_wrapper.proofs.Ending.{refuses_never}
 use Rattle.pump_wrapper.proofs.Joining.{keeps_since, keeps_then, read_keeps}
-use Rattle.pump_wrapper.proofs.Leaving.{front_wider, holds_some}
+use Rattle.pump_wrapper.proofs.Leaving.{prefix_wider, holds_some}
 use Rattle.pump_wrapper.proofs.Wholes.{sent_whole}
-use Rattle.pump_wrapper.proofs.Wrappings.{at_ok, at_err, has_still, front_still, not_ends, continues, gave_then}
+use Rattle.pump_wrapper.proofs.Wrappings.{at_ok, at_err, has_still, prefix_still, not_ends, continues, gave_then}
 use Rattle.pump_wrapper.proofs.file_sender.wrap.Goals as goal
 
 pub returns-in-Err-clause-ends : goal.returns-in-Err-clause-ends
@@ -19,11 +19,11 @@ pub returns-in-Err-clause-images : goal.returns-in-Err-clause-images
 returns-in-Err-clause-images g c = λ told f stand bytes is begins. c.in-Err.ensures.not.images told f stand (wrapped c.args.row.now.message bytes) begins
 
 pub returns-in-Err-clause-since : goal.returns-in-Err-clause-since
-returns-in-Err-clause-since g c = λ told f stand bytes is begins some front.
+returns-in-Err-clause-since g c = λ told f stand bytes is begins some prefix.
     let m = g.D.Disk.told in
     let row = c.args.row.now in
     let all = wrapped row.message bytes in
-    keeps_since m row all c.args.disks.recv c.in-Err.failed.disks.recv told front (c.in-Err.ensures.not.keeps told f stand all begins some front)
+    keeps_since m row all c.args.disks.recv c.in-Err.failed.disks.recv told prefix (c.in-Err.ensures.not.keeps told f stand all begins some prefix)
 
 pub returns-in-Ok-answer-clause-whole : goal.returns-in-Ok-answer-clause-whole
 returns-in-Ok-answer-clause-whole g c = λ told bytes is.
@@ -100,11 +100,11 @@ returns-in-Ok-answer-clause-images g c = λ told f stand bytes is begins was.
     let recv = c.compare-recv.result.0 in
     let on = continues row messages c.new-cutter.result c.compare-recv.new.cutter left rest a.takes.0 a.takes.1 c.new-cutter.ensures.all (at_ok r ok a.compares tells messages has.hold.recv_is) in
     c.send_further.ensures.images told messages (has_still m row mid.low mid.high mid.recv recv a.same messages tells has)
-    (front_still m row mid.low mid.high mid.recv recv a.same messages told (e.images told f stand)) (wrapped row.message bytes) begins
+    (prefix_still m row mid.low mid.high mid.recv recv a.same messages told (e.images told f stand)) (wrapped row.message bytes) begins
     (λ more first. subst (λ (l : Option (List ℕ)). BeginFile row l (messages ++ more)) is (on more first))
 
 pub returns-in-Ok-answer-clause-since : goal.returns-in-Ok-answer-clause-since
-returns-in-Ok-answer-clause-since g c = λ told f stand bytes is begins some front.
+returns-in-Ok-answer-clause-since g c = λ told f stand bytes is begins some prefix.
     let m = g.D.Disk.told in
     let row = c.args.row.now in
     let tells = m.images_tell told in
@@ -120,12 +120,12 @@ returns-in-Ok-answer-clause-since g c = λ told f stand bytes is begins some fro
     let mid = c.in-Ok.disks in
     let recv = c.compare-recv.result.0 in
     let still = has_still m row mid.low mid.high mid.recv recv a.same messages tells has in
-    let wider = front_wider m row messages all mid.recv begins (e.images told f stand) in
+    let wider = prefix_wider m row messages all mid.recv begins (e.images told f stand) in
     let on = continues row messages c.new-cutter.result c.compare-recv.new.cutter left rest a.takes.0 a.takes.1 c.new-cutter.ensures.all (at_ok r ok a.compares tells messages has.hold.recv_is) in
-    let read = keeps_then m row all c.args.disks.recv mid.recv recv (e.keeps told f stand all begins some front) (read_keeps m row all mid.recv recv (λ told. wider) a.same) in
+    let read = keeps_then m row all c.args.disks.recv mid.recv recv (e.keeps told f stand all begins some prefix) (read_keeps m row all mid.recv recv (λ told. wider) a.same) in
     let sent = c.send_further.ensures.keeps told messages still all begins (λ more first. subst (λ (l : Option (List ℕ)). BeginFile row l (messages ++ more)) is (on more first))
-    (holds_some row messages _ still.hold.recv_is) (front_still m row mid.low mid.high mid.recv recv a.same all told wider) in
-    keeps_since m row all c.args.disks.recv c.send_further.result.disks.recv told front (keeps_then m row all c.args.disks.recv recv c.send_further.result.disks.recv read sent)
+    (holds_some row messages _ still.hold.recv_is) (prefix_still m row mid.low mid.high mid.recv recv a.same all told wider) in
+    keeps_since m row all c.args.disks.recv c.send_further.result.disks.recv told prefix (keeps_then m row all c.args.disks.recv recv c.send_further.result.disks.recv read sent)
 
 pub returns-in-Ok-answer-clause-gave : goal.returns-in-Ok-answer-clause-gave
 returns-in-Ok-answer-clause-gave g c =
@@ -167,16 +167,16 @@ returns-in-Err-answer-clause-images g c = λ told f stand bytes is begins was.
     let row = c.args.row.now in
     let mid = c.in-Ok.disks in
     let all = wrapped row.message bytes in
-    front_still m row mid.low mid.high mid.recv c.compare-recv.result.0 c.compare-recv.ensures.same all told (front_wider m row (accepted_in f) all mid.recv begins (c.in-Ok.ensures.empties.images told f stand))
+    prefix_still m row mid.low mid.high mid.recv c.compare-recv.result.0 c.compare-recv.ensures.same all told (prefix_wider m row (accepted_in f) all mid.recv begins (c.in-Ok.ensures.empties.images told f stand))
 
 pub returns-in-Err-answer-clause-since : goal.returns-in-Err-answer-clause-since
-returns-in-Err-answer-clause-since g c = λ told f stand bytes is begins some front.
+returns-in-Err-answer-clause-since g c = λ told f stand bytes is begins some prefix.
     let m = g.D.Disk.told in
     let row = c.args.row.now in
     let mid = c.in-Ok.disks in
     let all = wrapped row.message bytes in
     let recv = c.compare-recv.result.0 in
     let e = c.in-Ok.ensures.empties in
-    let wider = front_wider m row (accepted_in f) all mid.recv begins (e.images told f stand) in
-    keeps_since m row all c.args.disks.recv recv told front
-    (keeps_then m row all c.args.disks.recv mid.recv recv (e.keeps told f stand all begins some front) (read_keeps m row all mid.recv recv (λ told. wider) c.compare-recv.ensures.same))
+    let wider = prefix_wider m row (accepted_in f) all mid.recv begins (e.images told f stand) in
+    keeps_since m row all c.args.disks.recv recv told prefix
+    (keeps_then m row all c.args.disks.recv mid.recv recv (e.keeps told f stand all begins some prefix) (read_keeps m row all mid.recv recv (λ told. wider) c.compare-recv.ensures.same))

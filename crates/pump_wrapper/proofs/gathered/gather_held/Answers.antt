@@ -5,13 +5,13 @@ use Rattle.stable_buffer.specs.Log.{RecvStands}
 use Rattle.disk_model.proofs.Run.{goes_on_same, started}
 use Rattle.std.proofs.KnownBytes.{Appends-nil}
 use Rattle.high_receiver.specs.Receiving.{recv_disk}
-use Rattle.pump_link.specs.Causes.{AppendsFront}
+use Rattle.pump_link.specs.Causes.{AppendsPrefix}
 use Rattle.high_receiver.specs.LogReading.{given_message}
 use Rattle.pump_wrapper.specs.HeldBack.{Held, held_in}
 use Rattle.pump_wrapper.specs.Wrapped.{unwrapped, BeginsFile}
 use Rattle.pump_wrapper.specs.Gathering.{HasTaken}
 use Rattle.pump_wrapper.proofs.Following.{begins, begins_no, one_taken, whole_file, file_whole}
-use Rattle.pump_wrapper.proofs.Takings.{length_of_piece, stands_on, count_is, next_message, next_bytes, front_behind}
+use Rattle.pump_wrapper.proofs.Takings.{length_of_piece, stands_on, count_is, next_message, next_bytes, prefix_behind}
 use Rattle.pump_wrapper.proofs.gathered.gather_held.Goals as goal
 
 pub returns-in-Err : goal.returns-in-Err
@@ -84,8 +84,8 @@ returns-in-Err-put g c =
             n + 1,
             omega (arith, lt),
             subst (λ (ms : List (List ℕ)). BeginsFile c.args.message ms) more (begins c.args.message (take n messages ++ asl ∷ []) c.take.new.self has),
-            subst (λ (bs : List ℕ). AppendsFront (g.O.Sink.written c.args.out.now) (g.O.Sink.written c.put.new.out) bs) bytes
-                (front_behind _ _ _ held.0 (held_in c.loop-number.room ++ piece) held.1 c.in-Err-put.ensures.err),
+            subst (λ (bs : List ℕ). AppendsPrefix (g.O.Sink.written c.args.out.now) (g.O.Sink.written c.put.new.out) bs) bytes
+                (prefix_behind _ _ _ held.0 (held_in c.loop-number.room ++ piece) held.1 c.in-Err-put.ensures.err),
           );
       ready = λ other. e.ready;
       closed = λ device. absurd device;

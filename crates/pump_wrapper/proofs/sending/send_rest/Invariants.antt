@@ -6,8 +6,8 @@ use Rattle.pump_frame.specs.Rows.{IsLawfulRow}
 use Rattle.script_reader.specs.Openings.{CanOpen, first_past}
 use Rattle.two_worlds.specs.Pumps.{StandsFor, disk_at, is_down, row_of}
 use Rattle.pump_wrapper.specs.Comparing.{Begins, SameBytes}
-use Rattle.pump_wrapper.specs.Crashes.{KeepsFront}
-use Rattle.pump_wrapper.specs.Cutting.{MayCut, cut_message}
+use Rattle.pump_wrapper.specs.Crashes.{KeepsPrefix}
+use Rattle.pump_wrapper.specs.Cutting.{MayCut, cut_bytes, cut_message}
 use Rattle.pump_wrapper.specs.Wraps.{AreFirst, all_taken}
 use Rattle.pump_wrapper.proofs.Sent.{Sending}
 use Rattle.pump_wrapper.proofs.sending.send_rest.Given as goal
@@ -22,7 +22,7 @@ invariant-loop-number g l =
       may : MayCut l.cutter;
       message : cut_message l.cutter ≡ r.message;
       from : l.first ≤ l.number;
-      taken : (bytes : List ℕ) × Consumes (g.I.Source.left l.fn.file) (g.I.Source.left l.file) bytes × (l.cutter.bytes ≡ l.fn.cutter.bytes + length bytes);
+      taken : (bytes : List ℕ) × Consumes (g.I.Source.left l.fn.file) (g.I.Source.left l.file) bytes × (cut_bytes l.cutter ≡ cut_bytes l.fn.cutter + length bytes);
       same : SameBytes l.fn.cutter l.cutter (g.I.Source.left l.fn.file) (g.I.Source.left l.file);
       reads : g.I.Source.faults l.fn.file ≤ g.I.Source.faults l.file;
       counts : (role : Role) → m.count (disk_at role l.fn.pump) ≤ m.count (disk_at role l.pump);
@@ -30,5 +30,5 @@ invariant-loop-number g l =
           → Sending m l.pump r messages l.fn.cutter l.cutter (g.I.Source.left l.fn.file) (g.I.Source.left l.file) l.number;
       keeps : m.tells → (messages : List (List ℕ)) → IsLawfulRow r → CanOpen r (all_taken messages) → StandsFor m l.fn.pump (first_past r (all_taken messages))
           → (all : List (List ℕ)) → ((more : List (List ℕ)) → AreFirst l.fn.cutter (g.I.Source.left l.fn.file) more → Begins (messages ++ more) all)
-          → KeepsFront m r all (disk_at roles.Recv l.fn.pump) (disk_at roles.Recv l.pump);
+          → KeepsPrefix m r all (disk_at roles.Recv l.fn.pump) (disk_at roles.Recv l.pump);
     }

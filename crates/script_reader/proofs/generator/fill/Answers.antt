@@ -1,7 +1,7 @@
 use Rattle.std.proofs.Common.{◌≡◌, ℕ, ◌+◌, ◌/◌, ◌%◌, ◌<◌, List, [], ◌∷◌, ◌++◌, length, take, sym, ap, ◌∙◌, add-one, arith}
 use Rattle.std.proofs.lemmas.List.{length-set, take_all, take_more_set}
 use Rattle.script_reader.specs.Generated.{counting}
-use Rattle.script_reader.proofs.Takings.{length_counting, counting_more, counting_front}
+use Rattle.script_reader.proofs.Takings.{length_counting, counting_more, counting_prefix}
 use Rattle.script_reader.proofs.generator.fill.Goals as goal
 
 pub bytes-preserved : goal.bytes-preserved
@@ -21,7 +21,7 @@ returns-clause-value c =
     let last : c.bytes.i ≡ 64 = omega (arith, c.bytes-test.false, c.bytes.auto.i-end) in
     let whole : c.bytes.bytes ≡ counting 64 c.args.message =
     sym (take_all c.bytes.i c.bytes.bytes (omega (arith, c.bytes.invariant.0, c.bytes-test.false))) ∙ c.bytes.invariant.1 ∙ ap (λ (n : ℕ). counting n c.args.message) last in
-    c.set.ensures ∙ ap (take count) whole ∙ counting_front count 64 c.args.message (omega arith)
+    c.set.ensures ∙ ap (take count) whole ∙ counting_prefix count 64 c.args.message (omega arith)
 
 pub returns-clause-few : goal.returns-clause-few
 returns-clause-few c = omega (arith, ap length (returns-clause-value c), length_counting (c.args.draw / 16777216 % 65) c.args.message)

@@ -43,19 +43,19 @@ returns-in-Step g c =
 pub returns-in-Gone : goal.returns-in-Gone
 returns-in-Gone g c =
     let line = c.in-Gone in
-    let put = c.put_front.ensures in
+    let put = c.put_prefix.ensures in
     rw line.is (line_put (Gone line.session line.moment) _ _ _ _ refl put.fields (omega arith) put.session)
 
 pub returns-in-High : goal.returns-in-High
 returns-in-High g c =
     let line = c.in-High in
-    let put = c.put_front-in-High.ensures in
+    let put = c.put_prefix-in-High.ensures in
     rw line.is (line_put (High line.session line.moment) _ _ _ _ refl put.fields (omega arith) put.session)
 
 pub returns-in-Carry : goal.returns-in-Carry
 returns-in-Carry g c =
     let line = c.in-Carry in
-    let put = c.put_front-in-Carry.ensures in
+    let put = c.put_prefix-in-Carry.ensures in
     rw line.is (line_put (Carry line.session line.back) _ _ _ _ refl put.fields (omega arith) (put.session, put.number))
 
 pub returns-in-Return : goal.returns-in-Return
@@ -74,11 +74,11 @@ returns-in-Done g c =
 pub returns-in-Restart : goal.returns-in-Restart
 returns-in-Restart g c =
     let line = c.in-Restart in
-    let put = c.put_front-in-Restart.ensures in
+    let put = c.put_prefix-in-Restart.ensures in
     rw line.is (line_put (Restart line.session line.moment) _ _ _ _ refl put.fields (omega arith) put.session)
 
 pub returns-in-ReceiverRestart : goal.returns-in-ReceiverRestart
 returns-in-ReceiverRestart g c =
     let line = c.in-ReceiverRestart in
-    let put = c.put_front-in-ReceiverRestart.ensures in
+    let put = c.put_prefix-in-ReceiverRestart.ensures in
     rw line.is (line_put (ReceiverRestart line.session line.moment) _ _ _ _ refl put.fields (omega arith) put.session)

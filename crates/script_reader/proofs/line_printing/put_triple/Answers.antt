@@ -2,4 +2,4 @@ use Rattle.script_reader.proofs.Behind.{field_put}
 use Rattle.script_reader.proofs.line_printing.put_triple.Goals as goal
 
 pub returns-clause-fields : goal.returns-clause-fields
-returns-clause-fields g c = field_put _ _ _ _ _ _ c.put_front.ensures.fields c.put_field.ensures.items
+returns-clause-fields g c = field_put _ _ _ _ _ _ c.put_prefix.ensures.fields c.put_field.ensures.items

@@ -1,5 +1,5 @@
-use Rattle.script_reader.proofs.LineEnds.{first_end}
+use Rattle.script_reader.proofs.LineEnds.{first_byte}
 use Rattle.script_reader.proofs.lines.line_end.Goals as goal
 
 pub returns : goal.returns
-returns c = first_end c.args.bytes.now c.memchr.result c.memchr.ensures
+returns c = first_byte 10 c.args.bytes.now c.memchr.result c.memchr.ensures

@@ -2,4 +2,4 @@ use Rattle.script_reader.proofs.Behind.{field_put, end_put}
 use Rattle.script_reader.proofs.printing.put_removed.Goals as goal
 
 pub returns : goal.returns
-returns g c = end_put _ _ _ _ _ (field_put _ _ _ _ _ _ (field_put _ _ _ _ _ _ c.put_front.ensures.fields c.put_field.ensures.items) c.put_time.ensures.items) c.put.ensures.items
+returns g c = end_put _ _ _ _ _ (field_put _ _ _ _ _ _ (field_put _ _ _ _ _ _ c.put_prefix.ensures.fields c.put_field.ensures.items) c.put_time.ensures.items) c.put.ensures.items

@@ -4,7 +4,7 @@ use Rattle.serving.proofs.keys.read_key.Given as goal
 
 abbrev pub invariant-loop-at : goal.invariant-loop-at
 invariant-loop-at g l = record {
-  front : Consumes (g.Q.Source.left l.fn.keys) (g.Q.Source.left l.keys) (take l.at l.key);
+  prefix : Consumes (g.Q.Source.left l.fn.keys) (g.Q.Source.left l.keys) (take l.at l.key);
   most : l.at ≤ 32;
   long : length l.key ≡ 32;
   later : g.Q.Source.faults l.fn.keys ≤ g.Q.Source.faults l.keys;

@@ -13,7 +13,7 @@ use Rattle.stable_buffer.specs.Making.{HasZeros, IsNone, KeepsFirst, LeavesFrom}
 use Rattle.stable_buffer.proofs.Making.{first_leaves, cleared, zeros_each, zeros_leave, zeros_stay, torn_first, begun_bytes, anything}
 use Rattle.stable_buffer.proofs.new_disk.begin.Goals as goal
 
--- a disk has at least its front
+-- a disk has at least its prefix
 size_least : (row : SessionRow) (role : Role) → 80 ≤ size_of row role
 size_least row Low = omega arith
 size_least row High = omega arith
@@ -73,8 +73,8 @@ returns-clause-bytes g c = λ told.
     let d0 = c.args.disk.now in
     let d1 = c.write_and_sync.new.disk in
     let clear = cleared m d0 d1 c.requires.empty c.in_ok-write_and_sync.ensures.written told in
-    let done = begun_bytes c.args.row.now (role_byte c.args.role) c.args.first c.args.second (c.disk_size.result - 80) c.header-front.result (m.reading d1) (m.reading c.write.new.disk) (m.reading c.fill_zeros.new.disk)
-    c.header-front.ensures clear (c.in_ok-write.ensures.written told) (c.in_ok-fill_zeros.ensures.zeros told) in
+    let done = begun_bytes c.args.row.now (role_byte c.args.role) c.args.first c.args.second (c.disk_size.result - 80) c.header-prefix.result (m.reading d1) (m.reading c.write.new.disk) (m.reading c.fill_zeros.new.disk)
+    c.header-prefix.ensures clear (c.in_ok-write.ensures.written told) (c.in_ok-fill_zeros.ensures.zeros told) in
     done ∙ (λ i. header_of c.args.row.now (role_byte c.args.role) c.args.first c.args.second ++ replicate (c.disk_size.ensures.size i - 80) 0)
 
 pub returns-in_err-write_and_sync-clause-during : goal.returns-in_err-write_and_sync-clause-during

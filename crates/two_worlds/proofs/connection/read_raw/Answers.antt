@@ -6,19 +6,17 @@ use Rattle.two_worlds.proofs.connection.read_raw.Goals as goal
 
 pub loop-byte-init : goal.loop-byte-init
 loop-byte-init c =
-    let before = c.args.waits.now.items in
-    let value = c.count_of-count.ensures.value in
+    let before = c.args.waits.now in
+    let value = c.len-count.ensures.value in
     record {
-      gathers = ([], fed_nothing c.args.reader.now, subst (λ (n : ℕ). Gathers before [] before n) (sym value) (gathers_none before (omega (arith, value, c.count_of-count.ensures.fits))));
-      count = omega (arith, c.count_of-count.ensures.fits);
-      few = c.requires.few;
-      room = c.requires.room;
+      gathers = ([], fed_nothing c.args.reader.now, subst (λ (n : ℕ). Gathers before [] before n) (sym value) (gathers_none before (omega (arith, value, c.len-count.ensures.fits))));
+      count = omega (arith, c.len-count.ensures.fits);
     }
 
 pub loop-byte-preserved : goal.loop-byte-preserved
 loop-byte-preserved c =
     let i = c.loop-byte.invariant in
-    let r = c.read_byte-count.ensures.gathers c.args.waits.now.items i.gathers.0 i.gathers.2 in
+    let r = c.read_byte-count.ensures.gathers c.args.waits.now i.gathers.0 i.gathers.2 in
     record {
       gathers = (
         i.gathers.0 ++ r.0,
@@ -26,12 +24,10 @@ loop-byte-preserved c =
         r.2,
       );
       count = omega (arith, i.count, c.read_byte-count.ensures.count);
-      few = c.read_byte-count.ensures.few;
-      room = c.read_byte-count.ensures.room;
     }
 
-pub returns-clause-gathers : goal.returns-clause-gathers
-returns-clause-gathers c =
+pub returns : goal.returns
+returns c =
     let i = c.loop-byte.invariant in (
       i.gathers.0,
       subst (λ (l : List ℕ). IsFed c.args.reader.now l (coming i.gathers.0 c.loop-byte.reader)) (take_fits c.loop-byte.byte-index c.args.bytes.now c.loop-byte-test.false) i.gathers.1,

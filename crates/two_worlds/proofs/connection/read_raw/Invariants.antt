@@ -1,5 +1,4 @@
 use Rattle.std.proofs.Common.{◌+◌, ◌≤◌, take, List}
-use Rattle.std.specs.Prelude.{vec_len, vec_capacity}
 use Rattle.pump_core.specs.History.{Arrival}
 use Rattle.script_reader.specs.Steps.{coming}
 use Rattle.two_worlds.specs.Private.Arrivals.{IsFed, Gathers}
@@ -7,8 +6,6 @@ use Rattle.two_worlds.proofs.connection.read_raw.Given as goal
 
 abbrev pub invariant-loop-byte : goal.invariant-loop-byte
 invariant-loop-byte l = record {
-  gathers : (added : List Arrival) × IsFed l.fn.reader (take l.byte-index l.bytes) (coming added l.reader) × Gathers l.fn.waits.items added l.waits.items l.count;
+  gathers : (added : List Arrival) × IsFed l.fn.reader (take l.byte-index l.bytes) (coming added l.reader) × Gathers l.fn.waits added l.waits l.count;
   count : l.count ≤ 64 + l.byte-index;
-  few : vec_len l.waits ≤ 64;
-  room : 64 ≤ vec_capacity l.waits;
 }

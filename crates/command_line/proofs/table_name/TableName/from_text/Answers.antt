@@ -1,5 +1,5 @@
 use Rattle.std.proofs.Common.{◌≡◌, ◌≤◌, ◌∙◌, sym, true, length, drop, replicate}
-use Rattle.pump_frame.specs.Padded.{padded_new, padded_whole, padded_front}
+use Rattle.pump_frame.specs.Padded.{padded_new, padded_whole, padded_prefix}
 use Rattle.command_line.specs.TableNames.{is_table_name}
 use Rattle.command_line.proofs.Texts.{short_name}
 use Rattle.command_line.proofs.table_name.TableName.from_text.Goals as goal
@@ -13,5 +13,5 @@ invariant_of-result c =
       short,
       padded_whole 64 bytes _ short copied,
       padded_new 64 bytes _ short copied,
-      rw (padded_front bytes c.copy_from_slice.new.self (drop (length bytes) (replicate 64 0)) copied) name,
+      rw (padded_prefix bytes c.copy_from_slice.new.self (drop (length bytes) (replicate 64 0)) copied) name,
     )

@@ -1,5 +1,5 @@
 use Rattle.std.proofs.Common.{◌≤◌, ◌∙◌, sym, length, drop, replicate}
-use Rattle.pump_frame.specs.Padded.{padded_new, padded_whole, padded_front}
+use Rattle.pump_frame.specs.Padded.{padded_new, padded_whole, padded_prefix}
 use Rattle.file_messages.specs.FileNames.{IsFileName}
 use Rattle.file_messages.proofs.Names.{short_name}
 use Rattle.file_messages.proofs.file_name.FileName.parse.Goals as goal
@@ -13,5 +13,5 @@ invariant_of-result c =
       short,
       padded_whole 128 bytes _ short copied,
       padded_new 128 bytes _ short copied,
-      rw (padded_front bytes c.copy_from_slice.new.self (drop (length bytes) (replicate 128 0)) copied) name,
+      rw (padded_prefix bytes c.copy_from_slice.new.self (drop (length bytes) (replicate 128 0)) copied) name,
     )

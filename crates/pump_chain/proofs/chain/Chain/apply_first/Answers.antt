@@ -2,7 +2,7 @@ use Rattle.std.proofs.Common.{inl, refl, sym, ap, ◌∙◌, ◌||◌}
 use Rattle.std.proofs.lemmas.Bool.{or_parts}
 use Rattle.script_reader.specs.Heads.{line_with}
 use Rattle.two_worlds.specs.Printing.{lines_in}
-use Rattle.pump_chain.proofs.Applying.{order_is, still_both, still_fronts, first_applies, first_fronts, none_way, down_first}
+use Rattle.pump_chain.proofs.Applying.{order_is, still_both, still_prefixes, first_applies, first_prefixes, none_way, down_first}
 use Rattle.pump_chain.proofs.Counting.{first_counts}
 use Rattle.pump_chain.proofs.Placing.{keeps_on}
 use Rattle.pump_chain.proofs.Printing.{none_printed}
@@ -15,7 +15,7 @@ returns-then-not-is_in_order-clause-applies g c = λ told s stands.
     (inl (sym (order_is g.D.Disk.told c.args.self.now s line stands) ∙ sym (c.is_in_order.ensures c.args.bytes.now) ∙ c.if-not-is_in_order.true), none_printed c.args.events.now.items c.requires.none, stands, still_both g.D.Disk.told c.args.self.now s stands)
 
 pub returns-then-not-is_in_order-clause-crashes : goal.returns-then-not-is_in_order-clause-crashes
-returns-then-not-is_in_order-clause-crashes g c = λ told s stands. still_fronts g.D.Disk.told c.args.self.now s stands
+returns-then-not-is_in_order-clause-crashes g c = λ told s stands. still_prefixes g.D.Disk.told c.args.self.now s stands
 
 pub invariant_of-self : goal.invariant_of-self
 invariant_of-self g c = record {
@@ -33,7 +33,7 @@ returns-clause-applies g c = λ told s stands.
 
 pub returns-clause-crashes : goal.returns-clause-crashes
 returns-clause-crashes g c = λ told s stands.
-    first_fronts g.D.Disk.told c.args.self.now c.apply_head-stop.new.self c.args.self.now.second s (line_with c.args.bytes.now c.args.line.now) (lines_in c.apply_head-stop.new.events.items) c.apply_head-stop.result stands refl (c.apply_head-stop.ensures.applies told s.first.past stands.first)
+    first_prefixes g.D.Disk.told c.args.self.now c.apply_head-stop.new.self c.args.self.now.second s (line_with c.args.bytes.now c.args.line.now) (lines_in c.apply_head-stop.new.events.items) c.apply_head-stop.result stands refl (c.apply_head-stop.ensures.applies told s.first.past stands.first)
 
 pub returns-clause-down : goal.returns-clause-down
 returns-clause-down g c = down_first _ _ _ c.apply_head-stop.result c.requires.up c.apply_head-stop.ensures.down

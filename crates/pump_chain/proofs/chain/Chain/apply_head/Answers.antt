@@ -6,7 +6,7 @@ use Rattle.two_worlds.specs.Printing.{lines_in}
 use Rattle.pump_chain.specs.declared.whose.Whose.TheVariants as whose
 use Rattle.pump_chain.specs.Chained.{MakesFirst, MakesSecond}
 use Rattle.pump_chain.specs.Standing.{AppliesBy}
-use Rattle.pump_chain.proofs.Applying.{still_fronts}
+use Rattle.pump_chain.proofs.Applying.{still_prefixes}
 use Rattle.pump_chain.proofs.Counting.{counted_by}
 use Rattle.pump_chain.proofs.Failing.{alone_later}
 use Rattle.pump_chain.proofs.Sharing.{sender_moment, by_share, skipped_applies, none_applies}
@@ -20,7 +20,7 @@ returns-in-Nobodys g c = record {
   applies = λ told s stands.
       by_share g.D.Disk.told c.args.self.now s stands c.row.result.now c.row-2.result.now c.row.ensures c.row-2.ensures (line_with c.args.bytes.now c.args.line.now) c.find_whose.result (c.find_whose.ensures.is c.args.bytes.now) c.args.self.now (lines_in c.clear.new.self.items) None whose.Nobodys c.in-Nobodys.is
       (skipped_applies g.D.Disk.told c.args.self.now s stands c.row.result.now c.row-2.result.now c.row.ensures c.row-2.ensures (line_with c.args.bytes.now c.args.line.now) c.find_whose.result (c.find_whose.ensures.is c.args.bytes.now) (lines_in c.clear.new.self.items) (ap lines_in c.clear.ensures));
-  crashes = λ told s stands. still_fronts g.D.Disk.told c.args.self.now s stands;
+  crashes = λ told s stands. still_prefixes g.D.Disk.told c.args.self.now s stands;
   device = tt;
   later = (alone_later g.D.Disk.told c.args.self.now.first c.args.self.now.first refl, alone_later g.D.Disk.told c.args.self.now.second c.args.self.now.second refl);
   down = c.requires.up;
@@ -31,7 +31,7 @@ returns-in-NoChains g c = record {
   applies = λ told s stands.
       by_share g.D.Disk.told c.args.self.now s stands c.row.result.now c.row-2.result.now c.row.ensures c.row-2.ensures (line_with c.args.bytes.now c.args.line.now) c.find_whose.result (c.find_whose.ensures.is c.args.bytes.now) c.args.self.now (lines_in c.clear.new.self.items) (Some Line) whose.NoChains c.in-NoChains.is
       (none_applies g.D.Disk.told c.args.self.now s stands c.row.result.now c.row-2.result.now c.row.ensures c.row-2.ensures (line_with c.args.bytes.now c.args.line.now) c.find_whose.result (c.find_whose.ensures.is c.args.bytes.now) (lines_in c.clear.new.self.items) (ap lines_in c.clear.ensures));
-  crashes = λ told s stands. still_fronts g.D.Disk.told c.args.self.now s stands;
+  crashes = λ told s stands. still_prefixes g.D.Disk.told c.args.self.now s stands;
   device = tt;
   later = (alone_later g.D.Disk.told c.args.self.now.first c.args.self.now.first refl, alone_later g.D.Disk.told c.args.self.now.second c.args.self.now.second refl);
   down = c.requires.up;

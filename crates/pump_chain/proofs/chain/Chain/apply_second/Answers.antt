@@ -1,7 +1,7 @@
 use Rattle.std.proofs.Common.{inl, refl, sym, ap, ◌∙◌, ◌||◌}
 use Rattle.script_reader.specs.Heads.{line_with}
 use Rattle.two_worlds.specs.Printing.{lines_in}
-use Rattle.pump_chain.proofs.Applying.{order_is, still_both, still_fronts, second_applies, second_fronts, none_way, sent_way}
+use Rattle.pump_chain.proofs.Applying.{order_is, still_both, still_prefixes, second_applies, second_prefixes, none_way, sent_way}
 use Rattle.pump_chain.proofs.Counting.{second_counts}
 use Rattle.pump_chain.proofs.Crashing.{left_alone}
 use Rattle.pump_chain.proofs.Linking.{other_adds}
@@ -15,7 +15,7 @@ returns-then-not-is_in_order-clause-applies g c = λ told s stands.
     (inl (sym (order_is g.D.Disk.told c.args.self.now s line stands) ∙ sym (c.is_in_order.ensures c.args.bytes.now) ∙ c.if-not-is_in_order.true), none_printed c.args.events.now.items c.requires.none, stands, still_both g.D.Disk.told c.args.self.now s stands)
 
 pub returns-then-not-is_in_order-clause-crashes : goal.returns-then-not-is_in_order-clause-crashes
-returns-then-not-is_in_order-clause-crashes g c = λ told s stands. still_fronts g.D.Disk.told c.args.self.now s stands
+returns-then-not-is_in_order-clause-crashes g c = λ told s stands. still_prefixes g.D.Disk.told c.args.self.now s stands
 
 pub returns-clause-applies : goal.returns-clause-applies
 returns-clause-applies g c = λ told s stands.
@@ -35,7 +35,7 @@ returns-clause-crashes g c = λ told s stands.
     let m = g.D.Disk.told in
     let was = c.args.self.now in
     let line = line_with c.args.bytes.now c.args.line.now in
-    second_fronts m was was was.first c.apply_head-stop.new.self s line (lines_in c.apply_head-stop.new.events.items) c.apply_head-stop.result stands stands (left_alone m was.first was.first s.first.past stands.first refl) refl c.apply_head-stop.ensures.row refl
+    second_prefixes m was was was.first c.apply_head-stop.new.self s line (lines_in c.apply_head-stop.new.events.items) c.apply_head-stop.result stands stands (left_alone m was.first was.first s.first.past stands.first refl) refl c.apply_head-stop.ensures.row refl
     (other_adds s.first.past.world.received line c.requires.look) (c.apply_head-stop.ensures.applies told s.second.past stands.second)
 
 pub returns-clause-device : goal.returns-clause-device

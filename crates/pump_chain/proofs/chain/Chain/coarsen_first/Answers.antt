@@ -2,7 +2,7 @@ use Rattle.std.proofs.Common.{inl, inr, refl, sym, ap, ◌∙◌}
 use Rattle.pump_frame.specs.declared.row.SessionRow.{SessionRow}
 use Rattle.std.proofs.Math.Logic.{∥∥₁_map}
 use Rattle.std.proofs.lemmas.Bool.{or_parts}
-use Rattle.pump_chain.proofs.Applying.{still_both, still_fronts, first_coarse, same_fronts}
+use Rattle.pump_chain.proofs.Applying.{still_both, still_prefixes, first_coarse, same_prefixes}
 use Rattle.pump_chain.proofs.Placing.{keeps_still}
 use Rattle.pump_chain.proofs.Failing.{same_later, alone_later}
 use Rattle.pump_chain.proofs.chain.Chain.coarsen_first.Goals.{then-self-via-then-self, then-self-via-else-self+then-is_coarse}
@@ -20,7 +20,7 @@ returns-then-self-clause-applies g c = λ told s stands. (
 )
 
 pub returns-then-self-clause-crashes : goal.returns-then-self-clause-crashes
-returns-then-self-clause-crashes g c = λ told s stands. still_fronts g.D.Disk.told c.args.self.now s stands
+returns-then-self-clause-crashes g c = λ told s stands. still_prefixes g.D.Disk.told c.args.self.now s stands
 
 pub invariant_of-self : goal.invariant_of-self
 invariant_of-self g c = record {
@@ -33,7 +33,7 @@ returns-clause-applies g c = λ told s stands.
     first_coarse g.D.Disk.told c.args.self.now _ s stands c.if-self.false refl refl c.make_coarse.ensures.disks (λ role. refl) refl (sym c.is_coarse.ensures ∙ c.if-is_coarse.false) e.row e.stands
 
 pub returns-clause-crashes : goal.returns-clause-crashes
-returns-clause-crashes g c = λ told s stands. same_fronts g.D.Disk.told c.args.self.now c.make_coarse.new.self c.args.self.now.second s stands (λ role. c.make_coarse.ensures.disks role) (λ role. refl)
+returns-clause-crashes g c = λ told s stands. same_prefixes g.D.Disk.told c.args.self.now c.make_coarse.new.self c.args.self.now.second s stands (λ role. c.make_coarse.ensures.disks role) (λ role. refl)
 
 pub returns-clause-later : goal.returns-clause-later
 returns-clause-later g c = (same_later g.D.Disk.told c.args.self.now.first c.make_coarse.new.self c.make_coarse.ensures.disks, alone_later g.D.Disk.told c.args.self.now.second c.args.self.now.second refl)

@@ -1,7 +1,7 @@
 use Rattle.std.proofs.Common.{◌≡◌, ℕ, ◌≤◌, inl, inr, length, refl, ap, subst, arith}
 use Rattle.disk_model.specs.declared.name.Role.TheVariants as roles
 use Rattle.pump_chain.specs.Comparing.{Agree}
-use Rattle.pump_chain.proofs.Comparing.{agree_longer, both_front, front_short}
+use Rattle.pump_chain.proofs.Comparing.{agree_longer, both_prefix, prefix_short}
 use Rattle.pump_chain.proofs.Crashing.{pump_lawful}
 use Rattle.pump_chain.proofs.Ending.{ends_then, read_both, read_on, unlinked_by, unread}
 use Rattle.pump_chain.proofs.chain.Chain.compare.Goals as goal
@@ -56,11 +56,11 @@ returns-in-Ok-compare_live-clause-linked g c = λ told p q h k.
     let test = c.if-accepted-received.false in
     let few : length q.world.accepted ≤ length p.world.received = omega (arith, accepted, received, test) in
     let lawful = pump_lawful g.D.Disk.told c.args.self.now.second q k in
-    let short = front_short q.world.received q.world.accepted lawful.delivered.prefix in
+    let short = prefix_short q.world.received q.world.accepted lawful.delivered.prefix in
     let least = c.min.ensures in
     let all : c.min.result ≡ length q.world.received = omega (arith, accepted, taken, least, short) in
     let live = c.in-Ok-compare_live.ensures.agree told p q (c.in-Ok.ensures.first.stands p h) (c.in-Ok.ensures.second.stands q k) in
-    both_front q.world.received q.world.accepted p.world.received q.world.removed lawful.delivered.prefix lawful.delivered.removed few
+    both_prefix q.world.received q.world.accepted p.world.received q.world.removed lawful.delivered.prefix lawful.delivered.removed few
     (subst (λ (n : ℕ). Agree 0 n q.world.received p.world.received) all (c.in-Ok.ensures.agree told p q h k))
     (subst (λ (n : ℕ × ℕ × ℕ). Agree n.1 n.0 q.world.accepted p.world.received) e live)
 
@@ -76,7 +76,7 @@ returns-in-Err-compare_live-clause-unlinked g c = λ told p q h k other.
     let received = ap (λ (n : ℕ × ℕ × ℕ). n.2) (c.counts-received.ensures.stands p h) in
     let test = c.if-accepted-received.false in
     let lawful = pump_lawful m c.args.self.now.second q k in
-    let short = front_short q.world.received q.world.accepted lawful.delivered.prefix in
+    let short = prefix_short q.world.received q.world.accepted lawful.delivered.prefix in
     let behind = lawful.delivered.removed in
     let least = c.min.ensures in
     let agree = c.in-Ok.ensures.agree told p q h k in

@@ -66,7 +66,7 @@ pub returns-in-Err-clause-back : goal.returns-in-Err-clause-back
 returns-in-Err-clause-back g c = inl (c.in-Err.ensures.back, refl)
 
 pub returns-in-Err-clause-stops : goal.returns-in-Err-clause-stops
-returns-in-Err-clause-stops g c = λ told f h F H front. c.in-Err.ensures.stops told f F
+returns-in-Err-clause-stops g c = λ told f h F H prefix. c.in-Err.ensures.stops told f F
 
 pub returns-in-Err-clause-never : goal.returns-in-Err-clause-never
 returns-in-Err-clause-never g c = λ plan room more. never_unopened g.D.Disk.told plan c.args.one.now c.args.disks.first c.in-Err.first room c.in-Err.why c.in-Err.ensures.back
@@ -80,7 +80,7 @@ returns-in-Err-open_one-clause-back g c =
     ))
 
 pub returns-in-Err-open_one-clause-stops : goal.returns-in-Err-open_one-clause-stops
-returns-in-Err-open_one-clause-stops g c = λ told f h F H front. c.in-Err-open_one.ensures.stops told h H
+returns-in-Err-open_one-clause-stops g c = λ told f h F H prefix. c.in-Err-open_one.ensures.stops told h H
 
 pub returns-in-Err-open_one-clause-never : goal.returns-in-Err-open_one-clause-never
 returns-in-Err-open_one-clause-never g c = λ plan room more. never_unopened g.D.Disk.told plan c.args.two.now c.args.disks.second c.in-Err-open_one.second more c.in-Err-open_one.why c.in-Err-open_one.ensures.back
@@ -118,7 +118,7 @@ returns-in-Err-compare-clause-back g c =
     inr (inr (subst (λ (x : Six _). IsApart m one two disks x c.in-Err-compare.why) (λ i. record { first = sym closed.first i; second = sym closed.second i }) apart))
 
 pub returns-in-Err-compare-clause-stops : goal.returns-in-Err-compare-clause-stops
-returns-in-Err-compare-clause-stops g c = λ told f h F H front.
+returns-in-Err-compare-clause-stops g c = λ told f h F H prefix.
     let m = g.D.Disk.told in
     let made = c.of-chain.result in
     let are = c.of-chain.ensures in
@@ -126,7 +126,7 @@ returns-in-Err-compare-clause-stops g c = λ told f h F H front.
     let e = c.in-Err-compare.ensures in
     let p = first_past c.args.one.now f in
     let q = first_past c.args.two.now h in
-    excused_by m made.first now.first made.second now.second q.world.accepted p.world.received front c.in-Err-compare.why e.ends
+    excused_by m made.first now.first made.second now.second q.world.accepted p.world.received prefix c.in-Err-compare.why e.ends
     (e.unlinked told p q (subst (λ (x : Pump _ _). StandsFor m x p) (sym are.first) (c.in-Ok.ensures.stands told f F)) (subst (λ (x : Pump _ _). StandsFor m x q) (sym are.second) (c.in-Ok-open_one.ensures.stands told h H)))
 
 pub returns-in-Err-compare-clause-never : goal.returns-in-Err-compare-clause-never

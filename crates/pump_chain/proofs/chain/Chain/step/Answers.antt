@@ -8,11 +8,11 @@ use Rattle.two_worlds.specs.declared.pump.Pump.{Pump}
 use Rattle.two_worlds.specs.Printing.{lines_in}
 use Rattle.two_worlds.specs.Pumps.{row_of, is_down}
 use Rattle.pump_chain.specs.Chained.{OfSecond, added, is_frame}
-use Rattle.pump_chain.proofs.Applying.{order_is, still_both, still_fronts, none_way}
+use Rattle.pump_chain.proofs.Applying.{order_is, still_both, still_prefixes, none_way}
 use Rattle.pump_chain.proofs.Counting.{second_counts, serves_rose}
 use Rattle.pump_chain.specs.Standing.{AreCounted}
 use Rattle.pump_chain.proofs.Printing.{none_printed}
-use Rattle.pump_chain.proofs.Stepping.{look_way, unread_applies, unread_fronts, read_stands, look_applies, look_fronts}
+use Rattle.pump_chain.proofs.Stepping.{look_way, unread_applies, unread_prefixes, read_stands, look_applies, look_prefixes}
 use Rattle.pump_chain.specs.Failing.{FailsNoLess}
 use Rattle.pump_chain.proofs.Failing.{goes_later, reads_later, alone_later}
 use Rattle.pump_chain.proofs.chain.Chain.step.Goals as goal
@@ -25,7 +25,7 @@ returns-then-moment-clause-applies g c = λ told s stands.
     (inl (sym (order_is g.D.Disk.told c.args.self.now s line stands) ∙ lt-leb _ _ (omega (arith, last, test))), none_printed c.args.events.now.items c.requires.none, stands, still_both g.D.Disk.told c.args.self.now s stands)
 
 pub returns-then-moment-clause-crashes : goal.returns-then-moment-clause-crashes
-returns-then-moment-clause-crashes g c = λ told s stands. still_fronts g.D.Disk.told c.args.self.now s stands
+returns-then-moment-clause-crashes g c = λ told s stands. still_prefixes g.D.Disk.told c.args.self.now s stands
 
 pub returns-in-Err-clause-applies : goal.returns-in-Err-clause-applies
 returns-in-Err-clause-applies g c = λ told s stands.
@@ -37,7 +37,7 @@ returns-in-Err-clause-applies g c = λ told s stands.
     (e.message told s stands) (none_printed c.args.events.now.items c.requires.none) e.fails e.second e.device
 
 pub returns-in-Err-clause-crashes : goal.returns-in-Err-clause-crashes
-returns-in-Err-clause-crashes g c = λ told s stands. unread_fronts g.D.Disk.told c.args.self.now s stands c.add.new.self c.in-Err.ensures.fails c.in-Err.ensures.second
+returns-in-Err-clause-crashes g c = λ told s stands. unread_prefixes g.D.Disk.told c.args.self.now s stands c.add.new.self c.in-Err.ensures.fails c.in-Err.ensures.second
 
 pub apply_head-stop-requires-clause-up : goal.apply_head-stop-requires-clause-up
 apply_head-stop-requires-clause-up g c = ap (λ (x : Pump _ _). is_down x) c.in-Ok.ensures.second ∙ (or_parts _ _ c.requires.up).1
@@ -72,7 +72,7 @@ returns-clause-crashes g c = λ told s stands.
     let arrives : arriving_with c.as_slice.result.now c.in-Ok.arrival ≡ added s = ap (λ (bytes : _). arriving_with bytes c.in-Ok.arrival) c.as_slice.ensures.value ∙ e.adds told s stands in
     let id : c.row.result.now.id ≡ (row_of was.second).id = ap (λ (r : _). r.id) c.row.ensures ∙ ap (λ (x : Pump _ _). (row_of x).id) e.second in
     let same : lines.Look c.row.result.now.id c.args.moment c.args.word (arriving_with c.as_slice.result.now c.in-Ok.arrival) ≡ lines.Look (row_of was.second).id c.args.moment c.args.word (added s) = λ i. lines.Look (id i) c.args.moment c.args.word (arrives i) in
-    look_fronts m was s stands u e.reads e.second e.sender e.under_way _ (row_of was.second).id c.args.moment c.args.word same (lines_in c.apply_head-stop.new.events.items) stop c.apply_head-stop.new.self (a.applies told s.second.past (read_stands m was s stands u e.reads e.second e.sender e.under_way).second) a.row
+    look_prefixes m was s stands u e.reads e.second e.sender e.under_way _ (row_of was.second).id c.args.moment c.args.word same (lines_in c.apply_head-stop.new.events.items) stop c.apply_head-stop.new.self (a.applies told s.second.past (read_stands m was s stands u e.reads e.second e.sender e.under_way).second) a.row
 
 pub returns-in-Err-clause-later : goal.returns-in-Err-clause-later
 returns-in-Err-clause-later g c =

@@ -1,6 +1,6 @@
 use Rattle.std.proofs.Common.{length, drop, replicate}
 use Rattle.pump_frame.specs.Names.{IsName}
-use Rattle.pump_frame.specs.Padded.{padded_new, padded_whole, padded_front}
+use Rattle.pump_frame.specs.Padded.{padded_new, padded_whole, padded_prefix}
 use Rattle.pump_frame.proofs.name.Name.from_slice.Goals as goal
 
 pub invariant_of-result : goal.invariant_of-result
@@ -10,5 +10,5 @@ invariant_of-result c =
       name.short,
       padded_whole 32 c.args.bytes.now _ name.short copied,
       padded_new 32 c.args.bytes.now _ name.short copied,
-      rw (padded_front c.args.bytes.now c.copy_from_slice.new.self (drop (length c.args.bytes.now) (replicate 32 0)) copied) name,
+      rw (padded_prefix c.args.bytes.now c.copy_from_slice.new.self (drop (length c.args.bytes.now) (replicate 32 0)) copied) name,
     )

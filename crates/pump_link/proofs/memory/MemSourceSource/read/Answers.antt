@@ -1,7 +1,7 @@
 use Rattle.std.proofs.Common.{◌≡◌, ◌+◌, min, take, length, drop, arith, length-drop, sym, ap, ◌∙◌}
 use Rattle.std.proofs.lemmas.Grind.{common_steps}
 use Rattle.std.proofs.lemmas.List.{take_rest, drop_all}
-use Rattle.pump_link.proofs.Known.{front_and_rest}
+use Rattle.pump_link.proofs.Known.{prefix_and_rest}
 use Rattle.pump_link.proofs.memory.MemSourceSource.read.Goals as goal
 
 pub returns-clause-bytes : goal.returns-clause-bytes
@@ -11,7 +11,7 @@ returns-clause-bytes c =
     let copied : c.copy_from_slice.new.self ≡ take c.min-count.result rest = simp (whole, take_rest) at c.copy_from_slice.ensures.after in
     let count : c.min-count.result ≡ min c.min.result (length rest) = simp (whole, take_rest) at c.min-count.ensures in
     let first : c.min.result ≡ min c.self.inside.piece (length c.args.into.now) = c.min.ensures in (
-      ap (λ s. s.left) (sym c.self.view_is) ∙ front_and_rest c.min-count.result c.self.inside.at c.self.inside.bytes.items c.args.into.now _ (omega arith) copied,
+      ap (λ s. s.left) (sym c.self.view_is) ∙ prefix_and_rest c.min-count.result c.self.inside.at c.self.inside.bytes.items c.args.into.now _ (omega arith) copied,
       λ zero room. drop_all (c.self.inside.at + c.min-count.result) c.self.inside.bytes.items (omega (arith, first, count, c.requires, c.self.invariant, length-drop c.self.inside.at c.self.inside.bytes.items)),
     )
 

@@ -1,7 +1,7 @@
 use Rattle.std.proofs.Common.{◌≡◌, ℕ, false, ◌==◌, ◌<◌, List, ◌∷◌, inl, inr, length, refl, sym, ◌∙◌, subst, arith}
 use Rattle.std.proofs.lemmas.Bool.{eqb-true, eqb-false}
 use Rattle.pump_wrapper.specs.Gathering.{FollowsOn}
-use Rattle.pump_wrapper.specs.Wrapped.{piece_message}
+use Rattle.file_messages.specs.Messages.{piece_message}
 use Rattle.pump_wrapper.proofs.Following.{no_piece, no_bad_piece, full_steps, short_steps}
 use Rattle.pump_wrapper.proofs.gathering.Gathering.take_piece.Goals as goal
 use Rattle.pump_wrapper.proofs.gathering.Gathering.take_piece.Goals.{then-is_empty-via-then-is_empty, then-is_empty-via-else-is_empty+then-piece-self}

@@ -1,5 +1,5 @@
 use Rattle.std.proofs.Common.{true, refl, subst}
-use Rattle.pump_link.specs.Causes.{AppendsFront}
+use Rattle.pump_link.specs.Causes.{AppendsPrefix}
 use Rattle.std.specs.Io.KnownBytes.{Appends}
 use Rattle.race.proofs.Tapes.{keeps_written, keeps_cut}
 use Rattle.race.proofs.tape.Tape.flush.Goals as goal
@@ -16,4 +16,4 @@ returns-in-Err-clause-stays g c = λ start first bytes k.
     let O = g.O.Sink in
     keeps_cut c.args.self.now (record c.args.self.now { held = c.clear-in-Err.new.self; has_failed = true }) start (O.written c.args.out.now) (O.written c.write_all.new.out) first (O.faults c.args.out.now) (O.faults c.write_all.new.out) bytes
     c.if-self.false refl c.write_all.ensures.cause.later c.in-Err.ensures.cause.failed
-    (subst (AppendsFront (O.written c.args.out.now) (O.written c.write_all.new.out)) c.as_slice.ensures.value c.in-Err.ensures.err) k
+    (subst (AppendsPrefix (O.written c.args.out.now) (O.written c.write_all.new.out)) c.as_slice.ensures.value c.in-Err.ensures.err) k

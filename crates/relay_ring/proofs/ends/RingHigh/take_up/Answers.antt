@@ -1,6 +1,6 @@
 use Rattle.std.proofs.Common.{◌≡◌, ◌+◌, ◌%◌, [], ◌∷◌, length, Some, unwrap_or, sym, ap, ◌∙◌, subst, arith}
 use Rattle.atomic_table.specs.Table.{Allows, rest}
-use Rattle.relay_ring.specs.RingRule.{taken_word, RingKept, TookUp, Mine, in_front}
+use Rattle.relay_ring.specs.RingRule.{taken_word, RingKept, TookUp, Mine, in_prefix}
 use Rattle.relay_ring.proofs.RingSteps.{stores_taken}
 use Rattle.relay_ring.proofs.Seats.{some_ahead, slot_of_first}
 use Rattle.relay_ring.proofs.ends.RingHigh.take_up.Goals as goal
@@ -26,7 +26,7 @@ store-requires g c =
     let found = some_ahead e.taken e.limit v is.limit c.requires.item in
     let has = slot_of_first e.places e.taken me found.0 found.1 found.2 is.holds is.count in
     let item = c.copy_out.new.into in
-    let same : Some found.0 ≡ Some item = ap in_front (sym has ∙ c.slot_mut-slot.ensures.value) ∙ c.copy_out.ensures in
+    let same : Some found.0 ≡ Some item = ap in_prefix (sym has ∙ c.slot_mut-slot.ensures.value) ∙ c.copy_out.ensures in
     let held : v.ahead ≡ item ∷ found.1 = found.2 ∙ ap (λ z. z ∷ found.1) (ap (λ o. unwrap_or o found.0) same) in
     let bare : rest me.1 ≡ [] = ap rest has in
     let read : ◌≡◌ {A = Mine} (v, (k, c.slot_mut-slot.result.now) ∷ rest me.1) (v, (k, Some item) ∷ []) = λ i. (v, (k, c.copy_out.ensures i) ∷ bare i) in

@@ -1,0 +1,4 @@
+pub mod Cuts
+pub mod PieceLists
+pub mod Rooms
+pub mod Unseen

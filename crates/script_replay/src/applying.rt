@@ -1,0 +1,438 @@
+//! A line of a script: of the session that it names, or that it begins.
+
+ghost use Rattle.std.specs.Prelude.{◌≡◌, ◌≢◌, ◌<◌, ◌≤◌, ℕ, true, false, List, [], ◌∷◌, length, None, Some, IfOk, IfErr};
+ghost use Rattle.std.specs.Prelude.{vec_len};
+ghost use Rattle.disk_model.specs.declared.name.Role.{Role as DiskRole};
+ghost use Rattle.pump_frame.specs.Counts.{Rose};
+ghost use Rattle.pump_frame.specs.Rows.{IsLawfulRow};
+ghost use Rattle.script_reader.specs.Grammar.{IsCount};
+ghost use Rattle.script_reader.specs.Lawful.{IsLawfulLine};
+ghost use Rattle.script_reader.specs.Heads.{line_with, CanHoldLine};
+ghost use Rattle.script_reader.specs.Scripts.{RunningAlone, Begun, Alone};
+ghost use Rattle.script_reader.specs.Sessions.{Sessions as Script, session_in, begins_session as begins};
+ghost use Rattle.script_reader.specs.Sessions.{stands_first as is_first, is_in_turn};
+ghost use Rattle.script_replay.specs.Sessions.{id_of, IsUp, StandsFor, LendsNew, GoesOnWith, FailedWith, HasFailed};
+ghost use Rattle.script_replay.specs.Sessions.{found_at, IsPlaced, AreInOrder, AllStandFor, AllLend};
+ghost use Rattle.script_replay.specs.Outputs.{held_of};
+ghost use Rattle.script_replay.specs.Failing.{FailsAt};
+ghost use Rattle.script_replay.specs.Shelves.{Places, AllAreBack, LeavesOtherSessions};
+ghost use Rattle.script_replay.specs.Runners.{AllAreUp, outcome_of, outcome_at, Begins, GoesSo, TurnDoes, BeginDoes};
+ghost use Rattle.script_replay.specs.Runners.{TurnIsQuiet, AllHandOver, IsDeviceOutcomeOf, DeviceFails, AllFresh};
+ghost use Rattle.script_replay.specs.Runners.{StartsFresh, FreshAfter, StopsByLine, IsOfBeginning};
+ghost use Rattle.script_replay.specs.Told.{IsMadeBy, AllAreMadeBy, GoesAsTold};
+
+use crate::disks::{put_disks_back, take_disks};
+use crate::outcome::{Outcome, outcome_at, outcome_of, untaken};
+use crate::output::Output;
+use crate::session::Session;
+use crate::sessions::Sessions;
+use arrayvec::ArrayVec;
+use disk_model::{Disk, Shelf};
+use pump_frame::SessionRow;
+use pump_link::Sink;
+use script_reader::{Body, EventHead, Line, LineHead, begins_session, session_of, stands_first};
+use std::alloc::Global;
+use two_worlds::Pump;
+
+/// Opens the session of a row over its three disks. They come off the shelf, and are back on it where
+/// it is not opened.
+fn begin_whole<S: Shelf>(
+    alloc: Global,
+    row: &SessionRow,
+    shelf: &mut S,
+) -> Result<Session<S::Disk>, Outcome>
+    requires lawful { IsLawfulRow row.now }
+    ensures begins { S.told.tells → S.Disk.told.tells
+        → Begins S.Disk.told (S.told.disk shelf.old) (S.told.disk shelf.new) (Line.Session row.now) result }
+    ensures fresh { S.told.tells → S.Disk.told.tells
+        → StartsFresh S.Disk.told (S.told.disk shelf.old) (S.told.disk shelf.new) row.now.id result }
+    ensures lends { IfOk result (λ session. LendsNew S.Disk.told (S.told.disk shelf.old) (S.told.disk shelf.new)
+        session) }
+    ensures up { IfOk result (λ session. IsUp session) }
+    ensures id { IfOk result (λ session. id_of session ≡ row.now.id) }
+    ensures back { IfErr result (λ outcome. S.told.tells → AllAreBack (S.told.disk shelf.old) (S.told.disk shelf.new)) }
+    ensures others { LeavesOtherSessions (S.told.disk shelf.old) (S.told.disk shelf.new) row.now.id }
+    ensures line { IfErr result (λ outcome. StopsByLine outcome × IsOfBeginning outcome) }
+    ensures refused { IfErr result (λ outcome. outcome ≡ Outcome.Refused → ⊥) }
+    ensures device { IfErr result (λ outcome. (number : ℕ) (role : DiskRole) → IsDeviceOutcomeOf number role outcome
+        → (number ≡ row.now.id) × FailsAt S.told S.Disk.told shelf.old shelf.new number role) }
+    ensures later { S.told.disk_faults shelf.old ≤ S.told.disk_faults shelf.new }
+    ensures made { (lines : List Line) → IfOk result (λ session. IsMadeBy S.Disk.told false (Some session) lines) }
+{
+    let disks = match take_disks(shelf, row.id) {
+        Ok(disks) => disks,
+        Err(not_taken) => return Err(untaken(row.id, not_taken)),
+    };
+    match Pump::open(alloc, row, disks.low, disks.high, disks.recv) {
+        Ok(pump) => Ok(Session::Whole { id: row.id, pump }),
+        Err(failed) => {
+            put_disks_back(shelf, row.id, failed.low, failed.high, failed.recv);
+            Err(outcome_at(row.id, failed.role, &failed.why))
+        }
+    }
+}
+
+fn begin_alone<D: Disk>(
+    alloc: Global,
+    row: &SessionRow,
+    next: u64,
+    held: bool,
+) -> Result<Session<D>, Outcome>
+    requires lawful { IsLawfulRow row.now }
+    requires count { IsCount next held }
+    ensures begins { (before : Places) → Begins D.told before before (Line.LowSession row.now next held) result }
+    ensures fresh { (before : Places) → StartsFresh D.told before before row.now.id result }
+    ensures lends { (before : Places) → IfOk result (λ session. LendsNew D.told before before session) }
+    ensures up { IfOk result (λ session. IsUp session) }
+    ensures id { IfOk result (λ session. id_of session ≡ row.now.id) }
+    ensures memory { IfErr result (λ outcome. outcome ≡ Outcome.Memory) }
+    ensures made { IfOk result (λ session. IsMadeBy D.told false (Some session)
+        (Line.LowSession row.now next held ∷ [])) }
+{
+    match Session::alone(alloc, row, next, held) {
+        Ok(session) => Ok(session),
+        Err(_) => Err(Outcome::Memory),
+    }
+}
+
+/// The session that the line is to begin.
+fn begin<S: Shelf>(
+    alloc: Global,
+    shelf: &mut S,
+    line: &LineHead,
+    body: &Body,
+) -> Result<Session<S::Disk>, Outcome>
+    requires lawful { IsLawfulLine (line_with body.now line.now) }
+    requires some { line_with body.now line.now ≢ Line.Skip }
+    ensures begins { S.told.tells → S.Disk.told.tells
+        → Begins S.Disk.told (S.told.disk shelf.old) (S.told.disk shelf.new) (line_with body.now line.now) result }
+    ensures fresh { S.told.tells → S.Disk.told.tells → (number : ℕ) → session_in (line_with body.now line.now)
+        ≡ Some number
+        → StartsFresh S.Disk.told (S.told.disk shelf.old) (S.told.disk shelf.new) number result }
+    ensures lends { IfOk result (λ session. LendsNew S.Disk.told (S.told.disk shelf.old) (S.told.disk shelf.new)
+        session) }
+    ensures up { IfOk result (λ session. IsUp session) }
+    ensures id { IfOk result (λ session. session_in (line_with body.now line.now) ≡ Some (id_of session)) }
+    ensures first { IfOk result (λ session. begins (line_with body.now line.now) ≡ true) }
+    ensures back { IfErr result (λ outcome. S.told.tells → AllAreBack (S.told.disk shelf.old) (S.told.disk shelf.new)) }
+    ensures others { (number : ℕ) → session_in (line_with body.now line.now) ≡ Some number
+        → LeavesOtherSessions (S.told.disk shelf.old) (S.told.disk shelf.new) number }
+    ensures line { IfErr result (λ outcome. StopsByLine outcome × IsOfBeginning outcome) }
+    ensures memory { IfErr result (λ outcome. outcome ≡ Outcome.Memory → begins (line_with body.now line.now) ≡ true) }
+    ensures refused { IfErr result (λ outcome. outcome ≡ Outcome.Refused → S.told.disk shelf.new
+        ≡ S.told.disk shelf.old) }
+    ensures device { IfErr result (λ outcome. (number : ℕ) (role : DiskRole) → IsDeviceOutcomeOf number role outcome
+        → (session_in (line_with body.now line.now) ≡ Some number)
+        × FailsAt S.told S.Disk.told shelf.old shelf.new number role) }
+    ensures later { S.told.disk_faults shelf.old ≤ S.told.disk_faults shelf.new }
+    ensures made { IfOk result (λ session. IsMadeBy S.Disk.told false (Some session)
+        (line_with body.now line.now ∷ [])) }
+{
+    // What begins a session has no body.
+    let _bytes = body;
+    match line {
+        LineHead::Session(row) => match row.first_bad() {
+            None => begin_whole(alloc, row, shelf),
+            Some(_) => Err(Outcome::Refused),
+        },
+        LineHead::LowSession { row, next, held } => match row.first_bad() {
+            None => begin_alone(alloc, row, *next, *held),
+            Some(_) => Err(Outcome::Refused),
+        },
+        _ => Err(Outcome::Refused),
+    }
+}
+
+/// A line of the session that has begun, which needs not stand first. The list is for what it prints.
+fn apply_and_print<D: Disk, O: Sink>(
+    session: &mut Session<D>,
+    line: &LineHead,
+    body: &Body,
+    events: &mut ArrayVec<EventHead, 4>,
+    output: &mut Output,
+    out: &mut O,
+) -> Outcome
+    requires lawful { IsLawfulLine (line_with body.now line.now) }
+    requires room { CanHoldLine line.now body.now }
+    requires some { line_with body.now line.now ≢ Line.Skip }
+    requires later { is_first (line_with body.now line.now) ≡ false }
+    requires up { IsUp session.old }
+    ensures does { D.told.tells → (running : Begun) → StandsFor D.told session.old running
+        → GoesSo D.told running (line_with body.now line.now) session.new (held_of output.old) (held_of output.new)
+        (O.written out.old) (O.written out.new) result }
+    ensures alone { (s : RunningAlone) → StandsFor D.told session.old (Alone s)
+        → GoesSo D.told (Alone s) (line_with body.now line.now) session.new (held_of output.old) (held_of output.new)
+        (O.written out.old) (O.written out.new) result }
+    ensures up { result ≡ Outcome.Applied → IsUp session.new }
+    ensures with { GoesOnWith D.told session.old session.new }
+    ensures line { StopsByLine result }
+    ensures memory { result ≡ Outcome.Memory → ⊥ }
+    ensures device { (number : ℕ) (role : DiskRole) → IsDeviceOutcomeOf number role result
+        → (id_of session.new ≡ number) × FailedWith D.told session.old session.new role }
+    ensures later { O.faults out.old ≤ O.faults out.new }
+    ensures cause { result ≡ Outcome.Unwritten → Rose (O.faults out.old) (O.faults out.new) }
+{
+    let stop = session.apply(line, body, events);
+    match output.print_all(events.as_slice(), out) {
+        Ok(()) => outcome_of(session.id(), &stop),
+        Err(_) => Outcome::Unwritten,
+    }
+}
+
+/// A line that may come now, of the session that is to stand at this place but does not yet.
+fn begin_session<S: Shelf>(
+    alloc: Global,
+    shelf: &mut S,
+    sessions: &mut Sessions<S::Disk>,
+    place: usize,
+    line: &LineHead,
+    body: &Body,
+) -> Outcome
+    requires lawful { IsLawfulLine (line_with body.now line.now) }
+    requires some { line_with body.now line.now ≢ Line.Skip }
+    requires order { AreInOrder sessions.old }
+    requires up { AllAreUp sessions.old.begun.items }
+    requires place { place ≤ vec_len sessions.old.begun }
+    requires named { (number : ℕ) × (session_in (line_with body.now line.now) ≡ Some number) }
+    requires first { begins (line_with body.now line.now) ≡ true → (sessions.old.is_under_way ≡ false)
+        × (length sessions.old.begun.items < 16) }
+    requires placed { (number : ℕ) → session_in (line_with body.now line.now) ≡ Some number
+        → IsPlaced number place sessions.old.begun.items false }
+    ensures order { AreInOrder sessions.new }
+    ensures does { S.told.tells → S.Disk.told.tells → (before : Places)
+        → AllLend S.Disk.told before (S.told.disk shelf.old) sessions.old.begun.items
+        → (t : Script) → AllStandFor S.Disk.told sessions.old t → is_in_turn t (line_with body.now line.now) ≡ true
+        → BeginDoes S.Disk.told before (S.told.disk shelf.new) t (line_with body.now line.now) sessions.new result }
+    ensures fresh { S.told.tells → S.Disk.told.tells → (before : Places)
+        → AllFresh S.Disk.told before (S.told.disk shelf.old) sessions.old.begun.items
+        → FreshAfter S.Disk.told before (S.told.disk shelf.new) sessions.new result }
+    ensures hands { (before : Places) → AllLend S.Disk.told before (S.told.disk shelf.old) sessions.old.begun.items
+        → AllHandOver S.told.tells S.Disk.told before (S.told.disk shelf.new) sessions.new.begun.items }
+    ensures goes { result ≡ Outcome.Applied → (before : Places)
+        → AllLend S.Disk.told before (S.told.disk shelf.old) sessions.old.begun.items
+        → AllLend S.Disk.told before (S.told.disk shelf.new) sessions.new.begun.items
+        × AllAreUp sessions.new.begun.items }
+    ensures waits { sessions.old.is_under_way ≡ true → sessions.new.is_under_way ≡ true }
+    ensures memory { result ≡ Outcome.Memory → sessions.old.is_under_way ≡ false }
+    ensures line { StopsByLine result }
+    ensures written { result ≡ Outcome.Unwritten → ⊥ }
+    ensures device { (number : ℕ) (role : DiskRole) → IsDeviceOutcomeOf number role result
+        → (found_at number sessions.old.begun.items ≡ None) × (found_at number sessions.new.begun.items ≡ None)
+        × FailsAt S.told S.Disk.told shelf.old shelf.new number role }
+    ensures disks_later { S.told.disk_faults shelf.old ≤ S.told.disk_faults shelf.new }
+    ensures told { (lines : List Line) → AllAreMadeBy S.Disk.told sessions.old lines
+        → GoesAsTold S.Disk.told sessions.new lines (line_with body.now line.now) result }
+{
+    match begin(alloc, shelf, line, body) {
+        Ok(session) => {
+            sessions.insert(place, session);
+            sessions.note_applied(line, place);
+            Outcome::Applied
+        }
+        Err(outcome) => outcome,
+    }
+}
+
+/// A line that stands first and may come now, of the session at this place: it makes it coarse, unless
+/// it is coarse already or the line is to begin it. It prints nothing.
+fn coarsen_at<D: Disk>(
+    sessions: &mut Sessions<D>,
+    place: usize,
+    line: &LineHead,
+    body: &Body,
+) -> Outcome
+    requires first { is_first (line_with body.now line.now) ≡ true }
+    requires order { AreInOrder sessions.old }
+    requires up { AllAreUp sessions.old.begun.items }
+    requires place { place < vec_len sessions.old.begun }
+    requires placed { (number : ℕ) → session_in (line_with body.now line.now) ≡ Some number
+        → IsPlaced number place sessions.old.begun.items true }
+    requires named { (number : ℕ) × (session_in (line_with body.now line.now) ≡ Some number) }
+    ensures order { AreInOrder sessions.new }
+    ensures does { (before now : Places) → AllLend D.told before now sessions.old.begun.items
+        → (t : Script) → AllStandFor D.told sessions.old t → is_in_turn t (line_with body.now line.now) ≡ true
+        → BeginDoes D.told before now t (line_with body.now line.now) sessions.new result }
+    ensures fresh { (before now : Places) → AllFresh D.told before now sessions.old.begun.items
+        → FreshAfter D.told before now sessions.new result }
+    ensures lends { (before now : Places) → AllLend D.told before now sessions.old.begun.items
+        → AllLend D.told before now sessions.new.begun.items }
+    ensures up { AllAreUp sessions.new.begun.items }
+    ensures waits { sessions.old.is_under_way ≡ true → sessions.new.is_under_way ≡ true }
+    ensures line { StopsByLine result }
+    ensures memory { result ≡ Outcome.Memory → ⊥ }
+    ensures written { result ≡ Outcome.Unwritten → ⊥ }
+    ensures device { (number : ℕ) (role : DiskRole) → IsDeviceOutcomeOf number role result → ⊥ }
+    ensures told { sessions.old.is_under_way ≡ false
+        → (lines : List Line) → AllAreMadeBy D.told sessions.old lines
+        → GoesAsTold D.told sessions.new lines (line_with body.now line.now) result }
+{
+    // What makes a session coarse has no body.
+    let _bytes = body;
+    if begins_session(line) {
+        return Outcome::Refused;
+    }
+    if sessions.begun[place].is_coarse() {
+        return Outcome::Refused;
+    }
+    sessions.begun[place].make_coarse();
+    sessions.note_applied(line, place);
+    Outcome::Applied
+}
+
+/// A line that may come now, of the session at this place. The list is for what it prints.
+fn apply_begun<D: Disk, O: Sink>(
+    sessions: &mut Sessions<D>,
+    place: usize,
+    line: &LineHead,
+    body: &Body,
+    events: &mut ArrayVec<EventHead, 4>,
+    output: &mut Output,
+    out: &mut O,
+) -> Outcome
+    requires lawful { IsLawfulLine (line_with body.now line.now) }
+    requires room { CanHoldLine line.now body.now }
+    requires some { line_with body.now line.now ≢ Line.Skip }
+    requires order { AreInOrder sessions.old }
+    requires up { AllAreUp sessions.old.begun.items }
+    requires place { place < vec_len sessions.old.begun }
+    requires placed { (number : ℕ) → session_in (line_with body.now line.now) ≡ Some number
+        → IsPlaced number place sessions.old.begun.items true }
+    requires named { (number : ℕ) × (session_in (line_with body.now line.now) ≡ Some number) }
+    ensures order { AreInOrder sessions.new }
+    ensures does { D.told.tells → (before now : Places) → AllLend D.told before now sessions.old.begun.items
+        → (t : Script) → AllStandFor D.told sessions.old t → is_in_turn t (line_with body.now line.now) ≡ true
+        → TurnDoes D.told before now t (line_with body.now line.now) sessions.new (held_of output.old)
+        (held_of output.new) (O.written out.old) (O.written out.new) result }
+    ensures fresh { (before now : Places) → AllFresh D.told before now sessions.old.begun.items
+        → FreshAfter D.told before now sessions.new result }
+    ensures lends { (before now : Places) → AllLend D.told before now sessions.old.begun.items
+        → AllLend D.told before now sessions.new.begun.items }
+    ensures up { result ≡ Outcome.Applied → AllAreUp sessions.new.begun.items }
+    ensures quiet { TurnIsQuiet sessions.old sessions.new (held_of output.old) (held_of output.new) (O.written out.old)
+        (O.written out.new) result }
+    ensures line { StopsByLine result }
+    ensures device { (number : ℕ) (role : DiskRole) → IsDeviceOutcomeOf number role result → (before now : Places)
+        → AllLend D.told before now sessions.old.begun.items
+        → HasFailed D.told now role (found_at number sessions.new.begun.items) }
+    ensures later { O.faults out.old ≤ O.faults out.new }
+    ensures cause { result ≡ Outcome.Unwritten → Rose (O.faults out.old) (O.faults out.new) }
+    ensures told { (is_first (line_with body.now line.now) ≡ true → sessions.old.is_under_way ≡ false)
+        → (lines : List Line) → AllAreMadeBy D.told sessions.old lines
+        → GoesAsTold D.told sessions.new lines (line_with body.now line.now) result }
+{
+    if stands_first(line) {
+        return coarsen_at(sessions, place, line, body);
+    }
+    match apply_and_print(&mut sessions.begun[place], line, body, events, output, out) {
+        Outcome::Applied => {
+            sessions.note_applied(line, place);
+            Outcome::Applied
+        }
+        outcome => outcome,
+    }
+}
+
+/// A line of the session with this number. The list is for what it prints.
+fn apply_to_session<S: Shelf, O: Sink>(
+    alloc: Global,
+    shelf: &mut S,
+    sessions: &mut Sessions<S::Disk>,
+    number: u32,
+    line: &LineHead,
+    body: &Body,
+    events: &mut ArrayVec<EventHead, 4>,
+    output: &mut Output,
+    out: &mut O,
+) -> Outcome
+    requires lawful { IsLawfulLine (line_with body.now line.now) }
+    requires room { CanHoldLine line.now body.now }
+    requires order { AreInOrder sessions.old }
+    requires up { AllAreUp sessions.old.begun.items }
+    requires named { session_in (line_with body.now line.now) ≡ Some number }
+    ensures order { AreInOrder sessions.new }
+    ensures does { S.told.tells → S.Disk.told.tells → (before : Places)
+        → AllLend S.Disk.told before (S.told.disk shelf.old) sessions.old.begun.items
+        → (t : Script) → AllStandFor S.Disk.told sessions.old t
+        → TurnDoes S.Disk.told before (S.told.disk shelf.new) t (line_with body.now line.now) sessions.new
+        (held_of output.old) (held_of output.new) (O.written out.old) (O.written out.new) result }
+    ensures fresh { S.told.tells → S.Disk.told.tells → (before : Places)
+        → AllFresh S.Disk.told before (S.told.disk shelf.old) sessions.old.begun.items
+        → FreshAfter S.Disk.told before (S.told.disk shelf.new) sessions.new result }
+    ensures hands { (before : Places) → AllLend S.Disk.told before (S.told.disk shelf.old) sessions.old.begun.items
+        → AllHandOver S.told.tells S.Disk.told before (S.told.disk shelf.new) sessions.new.begun.items }
+    ensures goes { result ≡ Outcome.Applied → (before : Places)
+        → AllLend S.Disk.told before (S.told.disk shelf.old) sessions.old.begun.items
+        → AllLend S.Disk.told before (S.told.disk shelf.new) sessions.new.begun.items
+        × AllAreUp sessions.new.begun.items }
+    ensures quiet { TurnIsQuiet sessions.old sessions.new (held_of output.old) (held_of output.new) (O.written out.old)
+        (O.written out.new) result }
+    ensures line { StopsByLine result }
+    ensures device { (number : ℕ) (role : DiskRole) → IsDeviceOutcomeOf number role result → (before : Places)
+        → AllLend S.Disk.told before (S.told.disk shelf.old) sessions.old.begun.items
+        → DeviceFails S.told S.Disk.told before shelf.old shelf.new sessions.new.begun.items number role }
+    ensures disks_later { S.told.disk_faults shelf.old ≤ S.told.disk_faults shelf.new }
+    ensures later { O.faults out.old ≤ O.faults out.new }
+    ensures cause { result ≡ Outcome.Unwritten → Rose (O.faults out.old) (O.faults out.new) }
+    ensures told { (lines : List Line) → AllAreMadeBy S.Disk.told sessions.old lines
+        → GoesAsTold S.Disk.told sessions.new lines (line_with body.now line.now) result }
+{
+    if !sessions.is_in_turn(line) {
+        return Outcome::Refused;
+    }
+    let place = sessions.place_of(number);
+    if sessions.is_at(place, number) {
+        apply_begun(sessions, place, line, body, events, output, out)
+    } else {
+        begin_session(alloc, shelf, sessions, place, line, body)
+    }
+}
+
+/// A line of the script. The list is for what it prints.
+pub fn apply_line<S: Shelf, O: Sink>(
+    alloc: Global,
+    shelf: &mut S,
+    sessions: &mut Sessions<S::Disk>,
+    line: &LineHead,
+    body: &Body,
+    events: &mut ArrayVec<EventHead, 4>,
+    output: &mut Output,
+    out: &mut O,
+) -> Outcome
+    requires lawful { IsLawfulLine (line_with body.now line.now) }
+    requires room { CanHoldLine line.now body.now }
+    requires order { AreInOrder sessions.old }
+    requires up { AllAreUp sessions.old.begun.items }
+    ensures order { AreInOrder sessions.new }
+    ensures does { S.told.tells → S.Disk.told.tells → (before : Places)
+        → AllLend S.Disk.told before (S.told.disk shelf.old) sessions.old.begun.items
+        → (t : Script) → AllStandFor S.Disk.told sessions.old t
+        → TurnDoes S.Disk.told before (S.told.disk shelf.new) t (line_with body.now line.now) sessions.new
+        (held_of output.old) (held_of output.new) (O.written out.old) (O.written out.new) result }
+    ensures fresh { S.told.tells → S.Disk.told.tells → (before : Places)
+        → AllFresh S.Disk.told before (S.told.disk shelf.old) sessions.old.begun.items
+        → FreshAfter S.Disk.told before (S.told.disk shelf.new) sessions.new result }
+    ensures hands { (before : Places) → AllLend S.Disk.told before (S.told.disk shelf.old) sessions.old.begun.items
+        → AllHandOver S.told.tells S.Disk.told before (S.told.disk shelf.new) sessions.new.begun.items }
+    ensures goes { result ≡ Outcome.Applied → (before : Places)
+        → AllLend S.Disk.told before (S.told.disk shelf.old) sessions.old.begun.items
+        → AllLend S.Disk.told before (S.told.disk shelf.new) sessions.new.begun.items
+        × AllAreUp sessions.new.begun.items }
+    ensures quiet { TurnIsQuiet sessions.old sessions.new (held_of output.old) (held_of output.new) (O.written out.old)
+        (O.written out.new) result }
+    ensures line { StopsByLine result }
+    ensures device { (number : ℕ) (role : DiskRole) → IsDeviceOutcomeOf number role result → (before : Places)
+        → AllLend S.Disk.told before (S.told.disk shelf.old) sessions.old.begun.items
+        → DeviceFails S.told S.Disk.told before shelf.old shelf.new sessions.new.begun.items number role }
+    ensures disks_later { S.told.disk_faults shelf.old ≤ S.told.disk_faults shelf.new }
+    ensures later { O.faults out.old ≤ O.faults out.new }
+    ensures cause { result ≡ Outcome.Unwritten → Rose (O.faults out.old) (O.faults out.new) }
+    ensures told { (lines : List Line) → AllAreMadeBy S.Disk.told sessions.old lines
+        → GoesAsTold S.Disk.told sessions.new lines (line_with body.now line.now) result }
+{
+    match session_of(line) {
+        None => Outcome::Applied,
+        Some(number) => apply_to_session(
+            alloc, shelf, sessions, number, line, body, events, output, out,
+        ),
+    }
+}

@@ -1,6 +1,6 @@
 //! A file of the machine as a disk.
 
-use crate::folders::enter;
+use crate::entering::enter;
 use adapters::{Access, FileDisk, FileShelf};
 use disk_model::{Disk, DiskFault, DiskName, Role, Shelf};
 use std::fs;

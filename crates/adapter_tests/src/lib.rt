@@ -7,7 +7,11 @@ mod clock_tests;
 #[cfg(test)]
 mod disk_tests;
 #[cfg(test)]
-mod folders;
+mod entering;
+#[cfg(test)]
+mod inbox_tests;
+#[cfg(test)]
+mod outbox_tests;
 #[cfg(test)]
 mod port_tests;
 #[cfg(test)]

@@ -1,6 +1,6 @@
 //! The current folder as a shelf.
 
-use crate::folders::enter;
+use crate::entering::enter;
 use adapters::{Access, FileDisk, FileShelf};
 use disk_model::{Disk, DiskFault, DiskName, Role, Shelf, ShelfFault};
 use std::fs;

@@ -1,14 +1,20 @@
 //! The outside of the relay over what the machine has: disks and a shelf over the files of the current
-//! folder, a source and a sink over a reader and a writer, random bytes, TCP ports, doors and links, and
-//! the machine's clock. Each counts its failures, and tells nothing of what it holds or brings. The ports
-//! and the clock of one side of a relay come together.
+//! folder, folders that files come into and go out of, a source and a sink over a reader and a writer,
+//! random bytes, TCP ports, doors and links, and the machine's clock. Each counts its failures, and tells
+//! nothing of what it holds or brings. The ports and the clock of one side of a relay come together.
 #![tactic(auto)]
 
 mod counted;
 mod file_ahead;
 mod file_disk;
+mod file_folders;
+mod file_inbox;
+mod file_outbox;
 mod file_place;
 mod file_shelf;
+mod folder;
+mod folder_disk;
+mod folder_notes;
 mod interruption;
 mod key_source;
 mod read_ahead;
@@ -21,11 +27,17 @@ mod tcp_door;
 mod tcp_link;
 mod tcp_ports;
 mod traffic;
+mod waiting;
 
 pub use counted::Counted;
 pub use file_disk::FileDisk;
+pub use file_folders::FileFolders;
+pub use file_inbox::FileInbox;
+pub use file_outbox::FileOutbox;
 pub use file_place::Access;
 pub use file_shelf::FileShelf;
+pub use folder_disk::FolderDisk;
+pub use folder_notes::FolderNotes;
 pub use key_source::KeySource;
 pub use readiness::is_writable;
 pub use real_clock::{RealClock, now};

@@ -15,7 +15,9 @@ pub struct StdSource<R> {
 }
 
 impl<R> StdSource<R> {
-    pub fn new(inner: R) -> Self {
+    pub fn new(inner: R) -> Self
+        ensures { result.faults ≡ 0 }
+    {
         StdSource { inner, faults: 0 }
     }
 }

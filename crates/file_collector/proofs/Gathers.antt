@@ -1,5 +1,5 @@
 -- What a gatherer's steps come to, by what their calls promise.
-use Rattle.std.proofs.Common.{◌≡◌, ◌⊎◌, inl, inr, ⊎_elim, ℕ, ◌+◌, ◌≤◌, Bool, true, false, if◌then◌else◌, List, [], ◌∷◌, ◌++◌, length, take, drop, Option, None, Some, Result, Ok, Err, IfErr, refl, sym, ◌∙◌, ap, subst, arith}
+use Rattle.std.proofs.Common.{◌≡◌, ◌⊎◌, inl, inr, ⊎_elim, ℕ, ◌≤◌, true, if◌then◌else◌, List, [], ◌∷◌, ◌++◌, length, take, drop, Option, None, Some, Result, Ok, Err, IfErr, refl, sym, ◌∙◌, ap, subst, arith}
 use Rattle.std.proofs.lemmas.List.{take_all}
 use Rattle.sha2.specs.Sha256.{sha256}
 use Rattle.sha2.proofs.Facts256.{length-sha256}
@@ -11,25 +11,33 @@ use Rattle.file_messages.specs.Assemblies.{answer, progress_of}
 use Rattle.file_messages.specs.declared.assembly.Progress.{Progress}
 use Rattle.file_messages.proofs.FirstBytes.{ends_with}
 use Rattle.file_messages.specs.declared.assembly.Step.TheVariants.{Started, Whole}
-use Rattle.file_messages.specs.declared.assembly.Step.TheVariants.{Grown as MoreBytes}
-use Rattle.folders.specs.Placing.{Placing, Names, Given, Turns, IsDurable, is_there}
-use Rattle.file_collector.specs.Gathering.{ShowsFile, IsAnswer, PartFailed, MayLeavePart, IsWhyNot, HasCome, HoldsPart, IsGivenFor, Places, CrashesIn, IsAsBefore, IsShown, PartStands, part_left}
+use Rattle.file_messages.specs.declared.assembly.Step.TheVariants.{Grown as MoreBytes, Dropped as GivenUp}
+use Rattle.file_messages.specs.declared.assembly.Cause.{Cause}
+use Rattle.folders.specs.Placing.{Placing, Names, Missing, Given, Turns, IsDurable, is_there}
+use Rattle.file_collector.specs.Gathering.{BeginsPart, ShowsFile, IsAnswer, PartFailed, MayLeavePart, IsWhyNot, HasCome, HoldsPart, IsGivenFor, Places, CrashesIn, IsAsBefore, IsShown, PartStands, part_left}
 use Rattle.file_collector.specs.Names.{IsChosen, IsCause, IsFault, IsShowing}
 use Rattle.file_collector.specs.Parts.{IsDevice}
 use Rattle.file_collector.specs.declared.gathering.Gatherer.{Gatherer}
-use Rattle.file_collector.specs.declared.values.Placed.TheVariants.{Begun, Grown, Shown}
+use Rattle.file_collector.specs.declared.values.Placed.TheVariants.{Begun, Grown, Shown, Dropped}
 use Rattle.file_collector.specs.declared.values.PlaceFault.TheVariants.{Device, NameTaken}
 use Rattle.file_collector.specs.declared.values.PlaceFault.{PlaceFault}
 use Rattle.file_collector.specs.declared.values.Placed.{Placed}
 use Rattle.file_collector.specs.declared.values.Shown.{Shown as ShownFile}
-use Rattle.file_collector.proofs.Steps.{begins, grows, completes, piece_bytes}
+use Rattle.file_collector.proofs.Steps.{begins, grows, completes, drops, piece_bytes, no_file}
+
+take_prefix : (a b : List ℕ) → take (length a) (a ++ b) ≡ a
+take_prefix [] b = refl
+take_prefix (x ∷ a) b = ap (λ (l : List ℕ). x ∷ l) (take_prefix a b)
+
+some_none : {X : Type 0} {l : List X} {x : X} → l ≡ [] → l ≡ x ∷ [] → ⊥
+some_none none some = absurd (cc (none, some))
 
 some_is : {X : Type 0} (a b : X) → Some a ≡ Some b → a ≡ b
 some_is a b e = cc e
 
 module _ {I D : Type 0} (mi : Placing I) (md : Meaning D) where
   -- a crash before the call left what is shown
-  names_before : (i : I) (names : Names) → IsDurable mi i → mi.tells_images → mi.since i (mi.moment i) names → names ≡ record { shown = mi.shown i; has_part = is_there (mi.part i) }
+  pub names_before : (i : I) (names : Names) → IsDurable mi i → mi.tells_images → mi.since i (mi.moment i) names → names ≡ record { shown = mi.shown i; has_part = is_there (mi.part i) }
   names_before i names durable told was = durable told names (mi.only_now told i names was)
 
   begin_leaves : (i j : I) (state : State) (names : Names) (bytes : List ℕ) → state ≡ Between → IsDurable mi i → Turns mi (λ x. x.shown ≡ mi.shown i) i j → mi.tells_images
@@ -53,6 +61,8 @@ module _ {I D : Type 0} (mi : Placing I) (md : Meaning D) where
           given = λ told. subst (λ (s : State). IsGivenFor s (mi.part new.inbox)) (sym now) (is_given told);
           durable = durable;
         };
+        still = λ none. subst (λ (s : State). BeginsPart md new.part s × (mi.tells → IsGivenFor s (mi.part new.inbox))) (sym was) (tt, λ told. tt);
+        gone = λ file gives. absurd (no_file state (message_of message) Started is (λ e. cc e) file gives);
         answer = is;
         shown = λ told tells. subst (λ (s : State). ShowsFile mi old.inbox new.inbox number s Begun) (sym was) shown;
         during = λ told tells names bytes left. inl (begin_leaves old.inbox new.inbox state names bytes was has.durable turns told left.of_folder);
@@ -67,6 +77,8 @@ module _ {I D : Type 0} (mi : Placing I) (md : Meaning D) where
       let (name, size, was, start) = begins state (message_of message) is in
       record {
         come = tt;
+        still = tt;
+        gone = tt;
         answer = tt;
         shown = tt;
         during = λ told tells names bytes left. inl (begin_leaves old.inbox new.inbox state names bytes was has.durable turns told left.of_folder);
@@ -129,6 +141,12 @@ module _ {I D : Type 0} (mi : Placing I) (md : Meaning D) where
           given = λ told. subst (λ (s : State). IsGivenFor s (mi.part new.inbox)) (sym now) (subst (λ (i : I). mi.part i ≡ Given) (sym same) (is_given told));
           durable = subst (λ (i : I). IsDurable mi i) (sym same) has.durable;
         };
+        still = λ none. subst (λ (s : State). BeginsPart md new.part s × (mi.tells → IsGivenFor s (mi.part new.inbox))) (sym g.was) (
+          subst (λ (p : Option D). BeginsPart md p (Inside g.name g.size g.bytes)) (sym of_new) (λ tells image left.
+              ap (λ (l : List ℕ). take (length g.bytes) l) (settled tells image left ∙ grew (md.images_tell tells) ∙ ap (λ (l : List ℕ). l ++ bytes) (part.1 (md.images_tell tells))) ∙ take_prefix g.bytes bytes),
+          λ told. subst (λ (i : I). mi.part i ≡ Given) (sym same) (is_given told),
+        );
+        gone = λ file gives. absurd (no_file state (message_of message) MoreBytes is (λ e. cc e) file gives);
         answer = is;
         shown = λ told tells. subst (λ (s : State). ShowsFile mi old.inbox new.inbox number s Grown) (sym g.was) (ap mi.shown same);
         during = λ told tells names bytes' left. inl (grow_leaves number at n state g.name g.size g.bytes old new e f has g.was of_old same of_new long moved told tells names bytes' left);
@@ -143,6 +161,8 @@ module _ {I D : Type 0} (mi : Placing I) (md : Meaning D) where
       let g = grows state (message_of message) is in
       record {
         come = tt;
+        still = tt;
+        gone = tt;
         answer = tt;
         shown = tt;
         during = λ told tells names bytes left. inl (grow_leaves number at n state g.name g.size g.bytes old new e f has g.was of_old same of_new long moved told tells names bytes left);
@@ -181,13 +201,18 @@ module _ {I D : Type 0} (mi : Placing I) (md : Meaning D) where
   gives_whole state m name size held was is whole =
       (λ i. given (was i) (is i)) ∙ ap (λ b. if b then record { name = name; bytes = held } ∷ [] else []) whole
 
+  some_file : (state : State) (m : Message) (name : List ℕ) (size : ℕ) (held : List ℕ) → state ≡ Inside name size held → m ≡ End (sha256 held) → is_whole size held (sha256 held) ≡ true
+      → given state m ≡ [] → ⊥
+  some_file state m name size held was is whole none = let some = gives_whole state m name size held was is whole in absurd (cc (some, none))
+
   pub shown_whole : (number : ℕ) (message digest : List ℕ) (state : State) (p : Progress) (old new : Gatherer I D) (e : D) (file : ShownFile) → HasCome mi md old state → progress_of state ≡ Some p → answer state (message_of message) ≡ Whole → digest ≡ drop 1 message
       → old.part ≡ Some e → new.part ≡ None → Turns mi (IsShowing mi old.inbox p.name number (md.reading e)) old.inbox new.inbox → IsDurable mi new.inbox → mi.count old.inbox ≤ mi.count new.inbox
+      → (mi.tells → mi.part new.inbox ≡ Missing)
       → (mi.tells → IsChosen (mi.free old.inbox) p.name number file.name.bytes)
       → (mi.tells → mi.shown new.inbox ≡ mi.shown old.inbox ++ record { name = file.name.bytes; bytes = md.reading e } ∷ [])
       → file.size ≡ p.size → file.digest ≡ digest
       → Places mi md number message state old new (Ok (Shown file))
-  shown_whole number message digest state p old new e file has progress is from of_old of_new turns durable later chosen shown sized summed =
+  shown_whole number message digest state p old new e file has progress is from of_old of_new turns durable later is_gone chosen shown sized summed =
       let w = completes state (message_of message) is in
       let same : p ≡ record { name = w.name; size = w.size; bytes = length w.bytes } = some_is p (record { name = w.name; size = w.size; bytes = length w.bytes }) (sym progress ∙ ap progress_of w.was) in
       let named : p.name ≡ w.name = ap (λ (q : Progress). q.name) same in
@@ -201,10 +226,13 @@ module _ {I D : Type 0} (mi : Placing I) (md : Meaning D) where
           given = λ told. subst (λ (s : State). IsGivenFor s (mi.part new.inbox)) (sym now) tt;
           durable = durable;
         };
+        still = λ none. absurd (some_file state (message_of message) w.name w.size w.bytes w.was w.message w.whole none);
+        gone = λ file gives. is_gone;
         answer = subst (λ (s : State). IsAnswer s (answer state (message_of message)) (Shown file)) (sym w.was) (is, sized ∙ sizes ∙ sym w.all, summed ∙ digest_is);
-        shown = λ told tells. subst (λ (s : State). ShowsFile mi old.inbox new.inbox number s (Shown file)) (sym w.was)
-            (subst (λ (n : List ℕ). IsChosen (mi.free old.inbox) n number file.name.bytes) named (chosen told),
-            shown told ∙ ap (λ (l : List ℕ). mi.shown old.inbox ++ record { name = file.name.bytes; bytes = l } ∷ []) (part.1 tells));
+        shown = λ told tells. subst (λ (s : State). ShowsFile mi old.inbox new.inbox number s (Shown file)) (sym w.was) (
+          subst (λ (n : List ℕ). IsChosen (mi.free old.inbox) n number file.name.bytes) named (chosen told),
+          shown told ∙ ap (λ (l : List ℕ). mi.shown old.inbox ++ record { name = file.name.bytes; bytes = l } ∷ []) (part.1 tells),
+        );
         during = λ told tells names bytes left.
             show_leaves number message state w.name w.size w.bytes old new e has w.was (gives_whole state (message_of message) w.name w.size w.bytes w.was w.message w.whole) of_old of_new
             (subst (λ (n : List ℕ). Turns mi (IsShowing mi old.inbox n number (md.reading e)) old.inbox new.inbox) named turns) told tells names bytes left;
@@ -227,6 +255,8 @@ module _ {I D : Type 0} (mi : Placing I) (md : Meaning D) where
       let named : p.name ≡ w.name = ap (λ (q : Progress). q.name) same in
       subst (λ (r : Result Placed PlaceFault). Places mi md number message state old new r) (sym err) (record {
         come = tt;
+        still = tt;
+        gone = tt;
         answer = tt;
         shown = tt;
         during = λ told tells names bytes left.
@@ -235,6 +265,43 @@ module _ {I D : Type 0} (mi : Placing I) (md : Meaning D) where
         later = later;
         why_not = why_not w.name w.size w.bytes number state old new w.was fault (subst (λ (n : List ℕ). IsCause mi n number old.inbox new.inbox fault) named cause);
       })
+
+  pub held_begins : (part : Option D) (name : List ℕ) (size : ℕ) (held : List ℕ) → HoldsPart md part (Inside name size held) → BeginsPart md part (Inside name size held)
+  held_begins None name size held h = h
+  held_begins (Some d) name size held h = λ tells image left. ap (λ (l : List ℕ). take (length held) l) (h.0 tells image left ∙ h.1 (md.images_tell tells)) ∙ whole_part held
+
+  unmoved : (part : Option D) (name : List ℕ) (size : ℕ) (held bytes : List ℕ) → BeginsPart md part (Inside name size held) → md.tells_images → MayLeavePart md part part bytes → take (length held) bytes ≡ held
+  unmoved None name size held bytes h tells left = absurd h
+  unmoved (Some d) name size held bytes h tells left = h tells bytes (md.only_now tells d bytes left)
+
+  pub unmoved_left : (i : I) (part : Option D) (state : State) (names : Names) (bytes : List ℕ) → IsDurable mi i → (mi.tells → IsGivenFor state (mi.part i)) → BeginsPart md part state
+      → mi.tells_images → md.tells_images → mi.since i (mi.moment i) names → MayLeavePart md part part bytes → PartStands state (part_left names bytes)
+  unmoved_left i part Between names bytes durable is_given begins told tells since left = tt
+  unmoved_left i part (Inside n z b) names bytes durable is_given begins told tells since left =
+      part_before n z b names bytes (part_there i names (names_before i names durable told since) (is_given (mi.images_tell told))) (unmoved part n z b bytes begins tells left)
+
+  pub dropped : (number : ℕ) (message : List ℕ) (state : State) (p : Progress) (cause : Cause) (g : Gatherer I D) → HasCome mi md g state → progress_of state ≡ Some p → answer state (message_of message) ≡ GivenUp cause
+      → Places mi md number message state g g (Ok (Dropped (record { cause = cause; name = p.name })))
+  dropped number message state p cause g has progress is =
+      let d = drops state (message_of message) cause p progress is in
+      let begins : BeginsPart md g.part state = subst (λ (s : State). BeginsPart md g.part s) (sym d.was) (held_begins g.part p.name d.size d.bytes (subst (λ (s : State). HoldsPart md g.part s) d.was has.part)) in
+      record {
+        come = record {
+          part = subst (λ (s : State). HoldsPart md g.part s) (sym d.now) tt;
+          given = λ told. subst (λ (s : State). IsGivenFor s (mi.part g.inbox)) (sym d.now) tt;
+          durable = has.durable;
+        };
+        still = λ none. (begins, has.given);
+        gone = λ file gives. absurd (some_none d.none gives);
+        answer = subst (λ (s : State). IsAnswer s (answer state (message_of message)) (Dropped (record { cause = cause; name = p.name }))) (sym d.was) (is, refl);
+        shown = λ told tells. subst (λ (s : State). ShowsFile mi g.inbox g.inbox number s (Dropped (record { cause = cause; name = p.name }))) (sym d.was) refl;
+        during = λ told tells names bytes left. inl (record {
+          shown = ap (λ (x : Names). x.shown) (names_before g.inbox names has.durable told left.of_folder);
+          part = unmoved_left g.inbox g.part state names bytes has.durable has.given begins told tells left.of_folder left.of_part;
+        });
+        later = omega arith;
+        why_not = tt;
+      }
 
   same_cause : (number : ℕ) (state : State) (old : Gatherer I D) (assembly : Assembly) (new : Gatherer I D) (fault : PlaceFault)
       → IsWhyNot mi md number state (record { inbox = old.inbox; part = old.part; assembly = assembly }) new fault → IsWhyNot mi md number state old new fault
@@ -252,6 +319,8 @@ module _ {I D : Type 0} (mi : Placing I) (md : Meaning D) where
       → Places mi md number message state (record { inbox = old.inbox; part = old.part; assembly = assembly }) new result → Places mi md number message state old new result
   same_places number message state old assembly new result h = record {
     come = h.come;
+    still = h.still;
+    gone = h.gone;
     answer = h.answer;
     shown = h.shown;
     during = λ told tells names bytes left. h.during told tells names bytes (record { of_folder = left.of_folder; of_part = left.of_part });

@@ -1,3 +1,10 @@
 pub mod Turns
 pub mod Steps
 pub mod Gathers
+pub mod Collects
+pub mod Feeding
+pub mod Starting
+pub mod Made
+pub mod Resumes
+pub mod Found
+pub mod Opens

@@ -1,15 +1,17 @@
 -- From which state and by which message an assembly comes to its answer.
-use Rattle.std.proofs.Common.{◌≡◌, ℕ, ◌+◌, ◌^◌, nat_le, nat_lt, ◌==◌, slice_index, ◌&&◌, Bool, true, false, if◌then◌else◌, List, [], ◌∷◌, length, drop, refl, sym, ◌∙◌, ap, subst}
+use Rattle.std.proofs.Common.{◌≡◌, ◌⊎◌, inl, inr, ℕ, ◌+◌, ◌^◌, nat_le, nat_lt, ◌==◌, slice_index, ◌&&◌, Bool, true, false, if◌then◌else◌, List, [], ◌∷◌, ◌++◌, length, drop, Some, refl, sym, ap, subst}
 use Rattle.std.proofs.lemmas.Bool.{and_parts, eqb-true}
 use Rattle.std.proofs.lemmas.Slice.Eq.{bytes_eq-Decides}
 use Rattle.byteorder.specs.Endian.{big_number}
 use Rattle.file_messages.specs.FileNames.{is_file_name}
 use Rattle.sha2.specs.Sha256.{sha256}
 use Rattle.file_messages.specs.Messages.{Message, Start, Piece, End, Abandon, Other, start_of, message_of}
-use Rattle.file_messages.specs.Files.{State, Between, Inside, is_whole, after, given}
-use Rattle.file_messages.specs.Assemblies.{answer}
+use Rattle.file_messages.specs.Files.{File, State, Between, Inside, is_whole, after, given}
+use Rattle.file_messages.specs.Assemblies.{answer, progress_of}
+use Rattle.file_messages.specs.declared.assembly.Progress.{Progress}
+use Rattle.file_messages.specs.declared.assembly.Cause.{Cause}
 use Rattle.file_messages.specs.declared.assembly.Step.{Step}
-use Rattle.file_messages.specs.declared.assembly.Step.TheVariants.{Started, Grown, Whole, Dropped, Odd}
+use Rattle.file_messages.specs.declared.assembly.Step.TheVariants.{Started, Grown, Whole, Dropped}
 use Rattle.file_messages.specs.declared.assembly.Cause.TheVariants.{TooLong, TooShort, Digest}
 
 -- an answer to bytes, and one to an end
@@ -133,3 +135,80 @@ unfolding message_of
 piece_bytes [] piece is = absurd (cc is)
 piece_bytes (kind ∷ rest) piece is =
     piece_by kind rest piece ((kind == 0) && nat_lt 0 (length rest)) (kind == 2) (kind == 3) ((kind == 4) && (length rest == 0)) refl is
+
+-- the file that has begun is dropped
+pub record Drops (state : State) (m : Message) (p : Progress) : Type 0 where
+  pub size : ℕ
+  pub bytes : List ℕ
+  pub was : state ≡ Inside p.name size bytes
+  pub now : after state m ≡ Between
+  pub none : given state m ≡ []
+
+room_drops : (n : List ℕ) (z : ℕ) (b piece : List ℕ) (cause : Cause) (room : Bool) → by_room room ≡ Dropped cause → (if room then Inside n z (b ++ piece) else Between) ≡ Between
+room_drops n z b piece cause true e = absurd (cc e)
+room_drops n z b piece cause false e = refl
+
+end_drops : (one : List File) (cause : Cause) (whole same : Bool) → by_end whole same ≡ Dropped cause → (if whole then one else []) ≡ []
+end_drops one cause true same e = absurd (cc e)
+end_drops one cause false same e = refl
+
+dropping : (n : List ℕ) (z : ℕ) (b : List ℕ) (m : Message) (cause : Cause) → answer (Inside n z b) m ≡ Dropped cause → (after (Inside n z b) m ≡ Between) × (given (Inside n z b) m ≡ [])
+dropping n z b (Start name size) cause e = (refl, refl)
+dropping n z b (Piece p) cause e = (room_drops n z b p cause (nat_le (length b + length p) z) e, refl)
+dropping n z b (End d) cause e = (refl, end_drops (record { name = n; bytes = b } ∷ []) cause (is_whole z b d) (length b == z) e)
+dropping n z b Abandon cause e = (refl, refl)
+dropping n z b Other cause e = (refl, refl)
+
+some_is : {X : Type 0} (a b : X) → Some a ≡ Some b → a ≡ b
+some_is a b e = cc e
+
+pub drops : (state : State) (m : Message) (cause : Cause) (p : Progress) → progress_of state ≡ Some p → answer state m ≡ Dropped cause → Drops state m p
+drops Between m cause p of e = absurd (cc of)
+drops (Inside n z b) m cause p of e =
+    let both = dropping n z b m cause e in
+    let named : n ≡ p.name = ap (λ (q : Progress). q.name) (some_is _ _ of) in
+    record { size = z; bytes = b; was = ap (λ (k : List ℕ). Inside k z b) named; now = both.0; none = both.1 }
+
+-- a message that is not answered as the end of a whole file gives none
+no_end_file : (one : List File) (s : Step) (whole same : Bool) → by_end whole same ≡ s → (s ≡ Whole → ⊥) → (if whole then one else []) ≡ []
+no_end_file one s true same e other = absurd (other (sym e))
+no_end_file one s false same e other = refl
+
+pub none_given : (state : State) (m : Message) (s : Step) → answer state m ≡ s → (s ≡ Whole → ⊥) → given state m ≡ []
+none_given Between m s e other = refl
+none_given (Inside n z b) (Start name size) s e other = refl
+none_given (Inside n z b) (Piece p) s e other = refl
+none_given (Inside n z b) (End d) s e other = no_end_file (record { name = n; bytes = b } ∷ []) s (is_whole z b d) (length b == z) e other
+none_given (Inside n z b) Abandon s e other = refl
+none_given (Inside n z b) Other s e other = refl
+
+empty_or : (a b : List File) (f : File) → a ≡ [] → a ≡ f ∷ [] → ⊥
+empty_or a b f none some = absurd (cc (none, some))
+
+pub no_file : (state : State) (m : Message) (s : Step) → answer state m ≡ s → (s ≡ Whole → ⊥) → (file : File) → given state m ≡ file ∷ [] → ⊥
+no_file state m s e other file gives = empty_or (given state m) [] file (none_given state m s e other) gives
+
+-- a message gives one file, or none
+one_or_none : (f : File) (whole : Bool) → ((if whole then f ∷ [] else []) ≡ []) ⊎ ((file : File) × ((if whole then f ∷ [] else []) ≡ file ∷ []))
+one_or_none f true = inr (f, refl)
+one_or_none f false = inl refl
+
+pub cases_given : (state : State) (m : Message) → (given state m ≡ []) ⊎ ((file : File) × (given state m ≡ file ∷ []))
+cases_given Between m = inl refl
+cases_given (Inside n z b) (Start name size) = inl refl
+cases_given (Inside n z b) (Piece p) = inl refl
+cases_given (Inside n z b) (End d) = one_or_none (record { name = n; bytes = b }) (is_whole z b d)
+cases_given (Inside n z b) Abandon = inl refl
+cases_given (Inside n z b) Other = inl refl
+
+end_gives : (one : List File) (whole same : Bool) → by_end whole same ≡ Whole → (if whole then one else []) ≡ one
+end_gives one true same e = refl
+end_gives one false true e = absurd (cc e)
+end_gives one false false e = absurd (cc e)
+
+pub whole_gives : (n : List ℕ) (z : ℕ) (b : List ℕ) (m : Message) → answer (Inside n z b) m ≡ Whole → given (Inside n z b) m ≡ record { name = n; bytes = b } ∷ []
+whole_gives n z b (End d) e = end_gives (record { name = n; bytes = b } ∷ []) (is_whole z b d) (length b == z) e
+whole_gives n z b (Start name size) e = absurd (cc e)
+whole_gives n z b (Piece p) e = absurd (no_whole_room (nat_le (length b + length p) z) e)
+whole_gives n z b Abandon e = absurd (cc e)
+whole_gives n z b Other e = absurd (cc e)

@@ -1,5 +1,5 @@
 -- How the register's disk moves as it turns.
-use Rattle.std.proofs.Common.{◌≡◌, inl, inr, ℕ, zero, suc, ◌+◌, ◌<◌, ◌≤◌, ◌^◌, List, [], ◌∷◌, ◌++◌, length, take, drop, Option, Some, Result, Ok, Err, OnOk, refl, sym, ◌∙◌, ap, subst, arith}
+use Rattle.std.proofs.Common.{◌≡◌, inl, inr, ℕ, suc, ◌+◌, ◌≤◌, List, length, take, drop, Option, Some, Result, Ok, Err, OnOk, refl, sym, ◌∙◌, ap, subst, arith}
 use Rattle.std.proofs.lemmas.List.{take-take}
 use Rattle.disk_model.specs.Disk.{Meaning, Moves, Torn, IsWritten, Each, Settled}
 use Rattle.disk_model.proofs.Run.{started, weaker, goes_on, each_settled, each_both}
@@ -11,7 +11,7 @@ use Rattle.file_messages.specs.Files.{State, Between, Inside}
 use Rattle.file_messages.specs.Messages.{start_message}
 use Rattle.file_messages.specs.Assemblies.{progress_of}
 use Rattle.file_messages.specs.declared.assembly.Progress.{Progress}
-use Rattle.file_collector.specs.Registers.{RegisterStands, HasStart, Follows, StandsOn, MayTurn, Turns, header, held, register_size}
+use Rattle.file_collector.specs.Registers.{RegisterStands, HasStart, Follows, StandsOn, MayTurn, Turns, held, register_size}
 use Rattle.file_collector.specs.Held.{held_by}
 
 some_is : {X : Type 0} (a b : X) → Some a ≡ Some b → a ≡ b
@@ -47,12 +47,14 @@ start_stays Between old new same is = tt
 start_stays (Inside name size bytes) old new same is = ap (λ (l : List ℕ). take (2 + length (start_message name size)) l) same.rest ∙ is
 
 pub stage_on : (old new : List ℕ) → KeepsValue old new → StandsOn old new
-stage_on old new keeps = record { same = λ count state is. record {
-  size = keeps.outside.size ∙ is.size;
-  header = keeps.outside.prefix ∙ is.header;
-  value = keeps.value ∙ is.value;
-  start = start_stays state old new keeps.outside is.start;
-} }
+stage_on old new keeps = record {
+  same = λ count state is. record {
+    size = keeps.outside.size ∙ is.size;
+    header = keeps.outside.prefix ∙ is.header;
+    value = keeps.value ∙ is.value;
+    start = start_stays state old new keeps.outside is.start;
+  };
+}
 
 -- the start of the next state is there: it was written, or is that of the file as it was
 start_follows : (second : ℕ) (next : State) (disk : List ℕ) → (second ≡ 0 → HasStart next disk) → (state : State) → second ≡ held state → HasStart state disk → Follows state next → HasStart next disk
@@ -75,15 +77,17 @@ turned first second next old new value has outside turns count state is follows 
     }
 
 pub commit_turns : (first second : ℕ) (next : State) (old new : List ℕ) → value_of old ≡ (first, second) → (second ≡ 0 → HasStart next old) → MayTurnTo (first + 1, held next) old new → MayTurn next old new
-commit_turns first second next old new value has turn = record { either = λ count state is follows. elim turn.value [
-  | inl same ↦ inl (record {
-    size = turn.outside.size ∙ is.size;
-    header = turn.outside.prefix ∙ is.header;
-    value = same ∙ is.value;
-    start = start_stays state old new turn.outside is.start;
-  })
-  | inr turns ↦ inr (turned first second next old new value has turn.outside turns count state is follows)
-] }
+commit_turns first second next old new value has turn = record {
+  either = λ count state is follows. elim turn.value [
+    | inl same ↦ inl (record {
+      size = turn.outside.size ∙ is.size;
+      header = turn.outside.prefix ∙ is.header;
+      value = same ∙ is.value;
+      start = start_stays state old new turn.outside is.start;
+    })
+    | inr turns ↦ inr (turned first second next old new value has turn.outside turns count state is follows)
+  ];
+}
 
 module _ {D : Type 0} (m : Meaning D) where
   nothing : (d : D) → Each m (λ c. Unit {0}) d

@@ -1,6 +1,7 @@
 -- What a gatherer does with a message: with its folder, and with the part of the file that has begun.
-use Rattle.std.specs.Prelude.{◌≡◌, ◌⊎◌, ℕ, ◌^◌, ◌<◌, ◌≤◌, if◌then◌else◌, List, [], ◌∷◌, ◌++◌, length, take, Option, None}
-use Rattle.std.specs.Prelude.{Some, Result, Ok, Err, OnOk, IfOk, IfErr}
+use Rattle.std.specs.Prelude.{◌≡◌, ◌⊎◌, ℕ, ◌^◌, ◌<◌, ◌≤◌, if◌then◌else◌, List, [], ◌∷◌, ◌++◌, length, take, Option}
+use Rattle.std.specs.Prelude.{None}
+use Rattle.std.specs.Prelude.{Some, Result, OnOk, IfOk, IfErr}
 use Rattle.sha2.specs.Sha256.{sha256}
 use Rattle.disk_model.specs.Disk.{Meaning, Settled}
 use Rattle.file_messages.specs.Files.{File, State, Between, Inside, after, given}
@@ -9,8 +10,9 @@ use Rattle.file_messages.specs.Messages.{message_of}
 use Rattle.file_messages.specs.Assemblies.{StandsFor, answer}
 use Rattle.file_messages.specs.declared.assembly.Step.{Step}
 use Rattle.file_messages.specs.declared.assembly.Step.TheVariants.{Started, Whole}
-use Rattle.file_messages.specs.declared.assembly.Step.TheVariants.{Grown as MoreBytes, Dropped as GivenUp, Odd as OutOfPlace}
-use Rattle.folders.specs.Placing.{Placing, Names, Part, Given, IsDurable}
+use Rattle.file_messages.specs.declared.assembly.Step.TheVariants.{Grown as MoreBytes, Dropped as GivenUp}
+use Rattle.file_messages.specs.declared.assembly.Step.TheVariants.{Odd as OutOfPlace}
+use Rattle.folders.specs.Placing.{Placing, Names, Part, Missing, Given, IsDurable}
 use Rattle.file_collector.specs.Names.{IsChosen, AreTaken, IsFault, IsShowing}
 use Rattle.file_collector.specs.Parts.{IsDevice}
 use Rattle.file_collector.specs.declared.gathering.Gatherer.{Gatherer}
@@ -19,17 +21,33 @@ use Rattle.file_collector.specs.declared.values.Placed.TheVariants.{Begun, Grown
 use Rattle.file_collector.specs.declared.values.PlaceFault.{PlaceFault}
 use Rattle.file_collector.specs.declared.values.PlaceFault.TheVariants.{Device, NameTaken}
 
--- the part has the bytes of the file that has begun, whatever crash comes; between two files there is none
+-- the part has the bytes of the file that has begun, whatever crash comes
 abbrev pub HoldsPart : {D : Type 0} → Meaning D → Option D → State → Type 0
-HoldsPart m None Between = Unit {0}
+HoldsPart m part Between = Unit {0}
 HoldsPart m None (Inside name size bytes) = ⊥
-HoldsPart m (Some disk) Between = ⊥
 HoldsPart m (Some disk) (Inside name size bytes) = Settled m disk × (m.tells → m.reading disk ≡ bytes)
+
+-- whatever crash comes, the part begins with the bytes of the file that has begun
+abbrev pub BeginsPart : {D : Type 0} → Meaning D → Option D → State → Type 0
+BeginsPart m part Between = Unit {0}
+BeginsPart m None (Inside name size bytes) = ⊥
+BeginsPart m (Some disk) (Inside name size bytes) = m.tells_images → (part : List ℕ) → m.images disk part
+    → take (length bytes) part ≡ bytes
+
+-- between two files no part is held
+abbrev pub IsClear : {D : Type 0} → Option D → State → Type 0
+IsClear part Between = part ≡ None
+IsClear part (Inside name size bytes) = Unit {0}
 
 -- where a file has begun, its part is given
 abbrev pub IsGivenFor : State → Part → Type 0
 IsGivenFor Between part = Unit {0}
 IsGivenFor (Inside name size bytes) part = part ≡ Given
+
+-- the part that is held in a state: none between two files
+abbrev pub part_in : {D : Type 0} → State → Option D → Option D
+part_in Between part = None
+part_in (Inside name size bytes) part = part
 
 -- the folder and the part are so far
 pub record HasCome {I D : Type 0} (mi : Placing I) (md : Meaning D) (g : Gatherer I D) (state : State) : Type 0 where
@@ -43,10 +61,12 @@ IsWellBegun Between = Unit {0}
 IsWellBegun (Inside name size bytes) = IsFileName name × (size < 2 ^ 48) × (length bytes ≤ size)
 
 -- a gatherer is ready for a message, after those that led to this state
-pub record IsGathering {I D : Type 0} (mi : Placing I) (md : Meaning D) (g : Gatherer I D) (state : State) : Type 0 where
-  pub assembly : StandsFor g.assembly state
-  pub come : HasCome mi md g state
-  pub begun : IsWellBegun state
+pub record IsGathering {I D : Type 0} (mi : Placing I) (md : Meaning D) (g : Gatherer I D) (state : State) : Type 0
+  where
+    pub assembly : StandsFor g.assembly state
+    pub come : HasCome mi md g state
+    pub clear : IsClear g.part state
+    pub begun : IsWellBegun state
 
 -- the part that a crash leaves
 abbrev pub part_left : Names → List ℕ → Option (List ℕ)
@@ -71,9 +91,10 @@ pub record CrashesIn {I D : Type 0} (mi : Placing I) (md : Meaning D) (old new :
   pub of_part : MayLeavePart md old.part new.part bytes
 
 -- the names and the part that the files before a message leave
-pub record IsAsBefore {I : Type 0} (m : Placing I) (old : I) (state : State) (names : Names) (bytes : List ℕ) : Type 0 where
-  pub shown : names.shown ≡ m.shown old
-  pub part : PartStands state (part_left names bytes)
+pub record IsAsBefore {I : Type 0} (m : Placing I) (old : I) (state : State) (names : Names) (bytes : List ℕ) : Type 0
+  where
+    pub shown : names.shown ≡ m.shown old
+    pub part : PartStands state (part_left names bytes)
 
 -- the file that a message gives is shown
 pub record IsShown {I : Type 0} (m : Placing I) (old : I) (number : ℕ) (message : List ℕ) (state : State)
@@ -105,20 +126,27 @@ PartFailed m (Some old) (Some new) faults = IsDevice m old new faults
 PartFailed m old new faults = ⊥
 
 -- why a message was not placed: a call of the folder or of the part failed, or both names of the file are taken
-abbrev pub IsWhyNot : {I D : Type 0} → Placing I → Meaning D → ℕ → State → Gatherer I D → Gatherer I D → PlaceFault → Type 0
+abbrev pub IsWhyNot : {I D : Type 0} → Placing I → Meaning D → ℕ → State → Gatherer I D → Gatherer I D → PlaceFault
+    → Type 0
 IsWhyNot mi md number state old new (Device faults) =
     IsFault mi old.inbox new.inbox (Device faults) ⊎ PartFailed md old.part new.part faults
 IsWhyNot mi md number (Inside name size bytes) old new NameTaken = mi.tells → AreTaken (mi.free old.inbox) name number
 IsWhyNot mi md number Between old new NameTaken = ⊥
 
--- A message is placed, with its folder and its part, or a call fails. A crash at any moment leaves the files and the part
--- from before it, or the file that it gives shown.
+-- A message is placed, with its folder and its part, or a call fails. A crash at any moment leaves the files and the
+-- part from before it, or the file that it gives shown.
 pub record Places {I D : Type 0} (mi : Placing I) (md : Meaning D) (number : ℕ) (message : List ℕ) (state : State)
     (old new : Gatherer I D) (result : Result Placed PlaceFault) : Type 0 where
   pub come : OnOk result (HasCome mi md new (after state (message_of message)))
+  -- where the message gives no file, the part serves for the state before it as well
+  pub still : OnOk result (given state (message_of message) ≡ [] → BeginsPart md new.part state
+      × (mi.tells → IsGivenFor state (mi.part new.inbox)))
+  pub gone : OnOk result ((file : File) → given state (message_of message) ≡ file ∷ [] → mi.tells
+      → mi.part new.inbox ≡ Missing)
   pub answer : IfOk result (λ placed. IsAnswer state (answer state (message_of message)) placed)
   pub shown : IfOk result (λ placed. mi.tells → md.tells → ShowsFile mi old.inbox new.inbox number state placed)
-  pub during : mi.tells_images → md.tells_images → (names : Names) (bytes : List ℕ) → CrashesIn mi md old new names bytes
+  pub during : mi.tells_images → md.tells_images → (names : Names) (bytes : List ℕ)
+      → CrashesIn mi md old new names bytes
       → IsAsBefore mi old.inbox state names bytes ⊎ IsShown mi old.inbox number message state names
   pub later : mi.count old.inbox ≤ mi.count new.inbox
   pub why_not : IfErr result (λ fault. IsWhyNot mi md number state old new fault)

@@ -3,3 +3,7 @@ pub mod Held
 pub mod Names
 pub mod Parts
 pub mod Gathering
+pub mod Collecting
+pub mod Opening
+pub mod Making
+pub mod Reopening

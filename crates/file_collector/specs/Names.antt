@@ -27,7 +27,8 @@ IsCause m name number old new (Device faults) = (faults ≡ m.count new) × Rose
 IsCause m name number old new NameTaken = m.tells → AreTaken (m.free old) name number
 
 -- a file with these bytes is shown beside those that were, under a name for it, and there is no part
-pub record IsShowing {I : Type 0} (m : Placing I) (old : I) (name : List ℕ) (number : ℕ) (bytes : List ℕ) (names : Names)
+pub record IsShowing {I : Type 0} (m : Placing I) (old : I) (name : List ℕ) (number : ℕ) (bytes : List ℕ)
+    (names : Names)
     : Type 0 where
   pub chosen : List ℕ
   pub is_chosen : IsChosen (m.free old) name number chosen

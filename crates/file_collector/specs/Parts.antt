@@ -1,6 +1,6 @@
 -- The part of a file, as its disk tells it.
 use Rattle.std.specs.Prelude.{◌≡◌, ℕ, length, Option, None, Some}
-use Rattle.disk_model.specs.Disk.{Meaning, Settled}
+use Rattle.disk_model.specs.Disk.{Meaning}
 use Rattle.pump_frame.specs.Counts.{Rose}
 
 -- the disk's count rose, and is told

@@ -1,5 +1,5 @@
 -- What the disk of a collector's register stands for, and how it turns.
-use Rattle.std.specs.Prelude.{◌≡◌, ◌⊎◌, ℕ, suc, ◌+◌, List, [], ◌∷◌, ◌++◌, length, take, drop, replicate, Option, None, Some}
+use Rattle.std.specs.Prelude.{◌≡◌, ◌⊎◌, ℕ, suc, ◌+◌, List, [], ◌∷◌, length, take, drop, replicate}
 use Rattle.disk_model.specs.Disk.{Meaning, Settled}
 use Rattle.stable_buffer.specs.Register.{IsReady, register_disk, register_value, value_of}
 use Rattle.stable_buffer.specs.Stands.{spelled}

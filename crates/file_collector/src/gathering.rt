@@ -33,8 +33,50 @@ impl<I: Inbox> Gatherer<I>
 where
     I::Disk: Drop,
 {
-    ghost use Rattle.file_collector.specs.Gathering.{HasCome, IsGathering, Places};
+    ghost use Rattle.file_collector.specs.Gathering.{HasCome, IsGathering, Places, part_in};
     ghost use Rattle.file_collector.specs.Parts.{PartHas};
+
+    /// A gatherer over a folder, a part of it, and what is known of the file of that part.
+    pub fn over(inbox: I, part: Option<I::Disk>, assembly: Assembly) -> Gatherer<I>
+        ensures { result ≡ record { inbox = inbox; part = part; assembly = assembly } }
+    {
+        Gatherer {
+            inbox,
+            part,
+            assembly,
+        }
+    }
+
+    /// The folder, and the part that is held.
+    pub fn into_parts(self) -> (I, Option<I::Disk>)
+        ensures { result ≡ (self.inbox, self.part) }
+    {
+        let Gatherer {
+            inbox,
+            part,
+            assembly: _,
+        } = self;
+        (inbox, part)
+    }
+
+    /// How far the file is that has begun.
+    pub fn progress(&self) -> Option<Progress>
+        ensures { (state : State) → StandsFor self.now.assembly state → result ≡ progress_of state }
+    {
+        self.assembly.progress()
+    }
+
+    /// Lets the part of a file go that was dropped. It is left lying.
+    pub fn let_go(&mut self)
+        ensures inbox { self.new.inbox ≡ self.old.inbox }
+        ensures assembly { self.new.assembly ≡ self.old.assembly }
+        ensures part { (state : State) → StandsFor self.old.assembly state
+            → self.new.part ≡ part_in state self.old.part }
+    {
+        if self.assembly.progress().is_none() {
+            self.part = None;
+        }
+    }
 
     // Begins a part.
     fn begin(&mut self) -> Result<Placed, PlaceFault>
@@ -82,7 +124,8 @@ where
         digest: &[u8],
     ) -> Result<Placed, PlaceFault>
         requires part { is_some self.old.part ≡ true }
-        requires ready { (state : State) × HasCome I.told I.Disk.told self.old state }
+        requires ready { (state : State) × HasCome I.told I.Disk.told self.old state
+            × (progress_of state ≡ Some progress.now) }
         requires number { number < 2 ^ 48 }
         requires digest { length digest.now ≡ 32 }
         ensures assembly { self.new.assembly ≡ self.old.assembly }
@@ -104,15 +147,13 @@ where
         }))
     }
 
-    // Lets the file go that has begun. Its part is left lying.
-    fn drop_file(&mut self, progress: &Progress, cause: Cause) -> Result<Placed, PlaceFault>
-        ensures assembly { self.new.assembly ≡ self.old.assembly }
-        ensures places { (state : State) (message : List ℕ) (number : ℕ) → HasCome I.told I.Disk.told self.old state
+    // Lets the file go that has begun. Its part is left lying, and held until the message is counted.
+    fn drop_file(&self, progress: &Progress, cause: Cause) -> Result<Placed, PlaceFault>
+        ensures places { (state : State) (message : List ℕ) (number : ℕ) → HasCome I.told I.Disk.told self.now state
             → progress_of state ≡ Some progress.now
             → answer state (message_of message) ≡ Dropped cause
-            → Places I.told I.Disk.told number message state self.old self.new result }
+            → Places I.told I.Disk.told number message state self.now self.now result }
     {
-        self.part = None;
         Ok(Placed::Dropped(Lost {
             cause,
             name: progress.name,
@@ -136,9 +177,7 @@ where
             (Step::Odd, _) => Ok(Placed::Odd),
             (_, None) => unreachable!("no file has begun"),
             (Step::Grown, Some(progress)) => self.add(progress, behind_kind(bytes)),
-            (Step::Whole, Some(progress)) => {
-                self.publish(progress, number, behind_kind(bytes))
-            }
+            (Step::Whole, Some(progress)) => { self.publish(progress, number, behind_kind(bytes)) }
             (Step::Dropped(cause), Some(progress)) => self.drop_file(progress, cause),
         }
     }

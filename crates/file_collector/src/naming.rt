@@ -67,7 +67,8 @@ pub fn show<I: Inbox>(
     name: &FileName,
     number: u64,
 ) -> Result<ArrayString<144>, PlaceFault>
-    where I::Disk: Drop
+where
+    I::Disk: Drop,
     requires number { number < 2 ^ 48 }
     requires settled { Settled I.Disk.told part }
     requires given { I.told.tells → I.told.part inbox.old ≡ Given }
@@ -75,6 +76,7 @@ pub fn show<I: Inbox>(
         → IsChosen (I.told.free inbox.old) name.now number chosen.bytes) }
     ensures shown { IfOk result (λ chosen. I.told.tells → I.told.shown inbox.new ≡ I.told.shown inbox.old
         ++ record { name = chosen.bytes; bytes = I.Disk.told.reading part } ∷ []) }
+    ensures gone { OnOk result (I.told.tells → I.told.part inbox.new ≡ Missing) }
     ensures durable { OnOk result (IsDurable I.told inbox.new) }
     // A crash at any moment leaves all as it was, or the file shown and no part.
     ensures turns { Turns I.told (IsShowing I.told inbox.old name.now number (I.Disk.told.reading part))

@@ -51,10 +51,7 @@ fn write_start<D: Disk>(register: &mut Register<D>, progress: &Progress) -> Resu
 }
 
 // Writes the start of a file that has just begun. The register tells that: it holds no bytes yet.
-fn prepare<D: Disk>(
-    register: &mut Register<D>,
-    progress: &Option<Progress>,
-) -> Result<(), Device>
+fn prepare<D: Disk>(register: &mut Register<D>, progress: &Option<Progress>) -> Result<(), Device>
     requires ready { IsReady D.told register.old }
     requires within { IsWithin progress.now }
     requires size { D.told.tells → length (D.told.reading (register_disk register.old)) ≡ register_size }
@@ -64,6 +61,7 @@ fn prepare<D: Disk>(
         → (register_value register.old).1 ≡ 0 → D.told.tells
         → HasStart next (D.told.reading (register_disk register.new))) }
     ensures moves { Moves D.told StandsOn (register_disk register.old) (register_disk register.new) }
+    ensures size { D.told.tells → length (D.told.reading (register_disk register.new)) ≡ register_size }
     ensures counts { D.told.count (register_disk register.old)
         ≤ D.told.count (register_disk register.new) }
     ensures rose { IsErr result → Rose (D.told.count (register_disk register.old))
@@ -77,10 +75,7 @@ fn prepare<D: Disk>(
 }
 
 /// Turns the register to one message more, which led to a file so far, or to between two files.
-pub fn turn<D: Disk>(
-    register: &mut Register<D>,
-    progress: &Option<Progress>,
-) -> Result<(), Device>
+pub fn turn<D: Disk>(register: &mut Register<D>, progress: &Option<Progress>) -> Result<(), Device>
     requires ready { IsReady D.told register.old }
     requires settled { Settled D.told (register_disk register.old) }
     requires within { IsWithin progress.now }
@@ -94,6 +89,8 @@ pub fn turn<D: Disk>(
     ensures turned { OnOk result ((next : State) → progress.now ≡ progress_of next → D.told.tells
         → Turns next (D.told.reading (register_disk register.old))
         (D.told.reading (register_disk register.new))) }
+
+    ensures size { D.told.tells → length (D.told.reading (register_disk register.new)) ≡ register_size }
 
     // A crash at any moment leaves the count from before, or one more.
     ensures moves { (next : State) → progress.now ≡ progress_of next

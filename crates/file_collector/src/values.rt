@@ -44,3 +44,16 @@ pub enum PlaceFault {
     /// The file is whole, but its name is taken, and also the one with its number.
     NameTaken,
 }
+
+/// Why a collector does not open.
+#[derive(Clone, Copy, Debug, PartialEq, Eq)]
+pub enum CollectFault {
+    /// A call of the folder or of the part failed: its count after that call.
+    Folder { faults: u64 },
+    /// A call of the register's disk failed: its count after that call.
+    Register { faults: u64 },
+    /// The register's disk is none of a collector.
+    Other,
+    /// The register's disk is one of a collector, but what it holds was written by none.
+    Damaged,
+}

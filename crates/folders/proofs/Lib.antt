@@ -3,3 +3,4 @@ pub mod Lengths
 pub mod One
 pub mod Tildes
 pub mod OutboxLogs
+pub mod Free

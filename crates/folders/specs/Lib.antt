@@ -7,3 +7,4 @@ pub mod OutboxLog
 pub mod OutboxLogLaws
 pub mod MemOutboxes
 pub mod Placing
+pub mod MemInbox

@@ -52,7 +52,8 @@ pub record Turns {I : Type 0} (m : Placing I) (may : Names → Type 0) (old new 
 
 -- a crash leaves the names as they are
 abbrev pub IsDurable : {I : Type 0} → Placing I → I → Type 0
-IsDurable m i = m.tells_images → (x : Names) → m.images i x → x ≡ record { shown = m.shown i; has_part = is_there (m.part i) }
+IsDurable m i = m.tells_images → (x : Names) → m.images i x
+    → x ≡ record { shown = m.shown i; has_part = is_there (m.part i) }
 
 -- the files, the part, the free names and the images are as they were
 pub record Stays {I : Type 0} (m : Placing I) (old new : I) : Type 0 where

@@ -1,5 +1,6 @@
 // The folder that files come into: its calls, and what they promise.
-ghost use Rattle.std.specs.Prelude.{◌≡◌, ◌++◌, ◌∷◌, [], true, false, ⊤, Some, None, option_map, IfOk, OnOk, OnErr, IfSome};
+ghost use Rattle.std.specs.Prelude.{◌≡◌, ◌++◌, ◌∷◌, [], true, false, ⊤, Some, None, option_map, IfOk, OnOk, OnErr};
+ghost use Rattle.std.specs.Prelude.{IfSome};
 ghost use Rattle.std.specs.Prelude.{length, take, ℕ, List};
 ghost use Rattle.disk_model.specs.Disk.{Settled};
 ghost use Rattle.folders.specs.Placing.{Placing, Names, Missing, Given, Turns, IsDurable, Stays, Counted, first_of};
@@ -22,11 +23,12 @@ pub trait Inbox {
     /// What the folder tells of itself.
     ghost told: { Placing Self };
 
-    /// The disk of the register; a new one is empty. None is given twice.
+    /// The disk of the register; a new one is empty. None is given twice. What is shown is durable then.
     fn register(&mut self) -> Result<Self::Disk, InboxFault>
         ensures reads { IfOk result (λ disk. told.tells
             → told.register self.old ≡ Some (Self.Disk.told.reading disk)) }
         ensures stays { Stays told self.old self.new }
+        ensures durable { OnOk result (IsDurable told self.new) }
         ensures counted { Counted told self.old self.new result };
 
     /// Begins a part, which is empty. One that was there is gone.
@@ -42,20 +44,16 @@ pub trait Inbox {
         ensures counted { Counted told self.old self.new result };
 
     /// The part that lies in the folder, cut to its first `count` bytes; `None` exactly where it has
-    /// fewer, or there is none.
+    /// fewer, or there is none. A crash inside leaves it at least these bytes.
     fn resume(&mut self, count: u64) -> Result<Option<Self::Disk>, InboxFault>
         ensures found { IfOk result (λ part. told.tells
             → option_map Self.Disk.told.reading part ≡ first_of count (told.part self.old)) }
         ensures length { IfOk result (λ part. IfSome part (λ disk. Self.Disk.told.tells
             → length (Self.Disk.told.reading disk) ≡ count)) }
         ensures settled { IfOk result (λ part. IfSome part (λ disk. Settled Self.Disk.told disk)) }
-        // A crash at any moment leaves the part at least so many bytes.
-        ensures kept { IfOk result (λ part. IfSome part (λ disk. Self.Disk.told.tells_images
-            → (c : List ℕ) → Self.Disk.told.since disk 0 c
-            → take count c ≡ Self.Disk.told.reading disk)) }
         ensures given { IfOk result (λ part. IfSome part (λ disk. told.tells
             → told.part self.new ≡ Given)) }
-        ensures left { result ≡ Ok None → told.part self.new ≡ told.part self.old }
+        ensures left { result ≡ Ok None → told.tells → told.part self.new ≡ told.part self.old }
         ensures kept_err { OnErr result (told.tells → first_of count (told.part self.new)
             ≡ first_of count (told.part self.old)) }
         ensures shown { told.shown self.new ≡ told.shown self.old }

@@ -28,8 +28,9 @@ use std::marker::Model;
 /// last of them come again, and where there are none it is empty.
 #[derive(Drop)]
 pub struct MemFile {
-    pub name: FileName,
-    pub contents: Vec<Vec<u8>>,
+    name: FileName,
+    contents: Vec<Vec<u8>>,
+    opened: usize,
 }
 
 // The mark, if a file is marked, and how many files were removed.
@@ -44,7 +45,6 @@ struct Place {
 #[derive(Drop)]
 pub struct MemOutbox {
     files: Vec<MemFile>,
-    opened: usize,
     piece: usize,
     log: VecDeque<Entry>,
     // What stands, and what a crash leaves that makes the changes of failed calls.
@@ -99,20 +99,39 @@ fn put_first(log: &mut VecDeque<Entry>, entry: Entry) -> bool
     log.push_front(entry).is_ok()
 }
 
-// What the next opening of a file gives, where it was opened so often.
-fn content(file: &MemFile, opened: usize) -> &[u8] {
+// What the next opening of a file gives.
+fn content(file: &MemFile) -> &[u8] {
     let last = file.contents.len().saturating_sub(1);
-    match file.contents.get(opened.min(last)) {
+    match file.contents.get(file.opened.min(last)) {
         Some(bytes) => bytes,
         None => &[],
     }
 }
 
 // The same, of one of the files.
-fn content_of(files: &[MemFile], at: usize, opened: usize) -> &[u8] {
+fn content_of(files: &[MemFile], at: usize) -> &[u8] {
     match files.get(at) {
-        Some(file) => content(file, opened),
+        Some(file) => content(file),
         None => &[],
+    }
+}
+
+// Counts an opening of one of the files.
+fn count_opening(files: &mut Vec<MemFile>, at: usize) {
+    match files.get_mut(at) {
+        Some(file) => file.opened = file.opened.saturating_add(1),
+        None => {}
+    }
+}
+
+impl MemFile {
+    /// A file of this name; `contents` are what its openings give.
+    pub fn new(name: FileName, contents: Vec<Vec<u8>>) -> MemFile {
+        MemFile {
+            name,
+            contents,
+            opened: 0,
+        }
     }
 }
 
@@ -126,7 +145,6 @@ impl MemOutbox {
         let log = VecDeque::new(*fails.allocator());
         MemOutbox {
             files,
-            opened: 0,
             piece,
             log,
             stands: Place {
@@ -201,7 +219,6 @@ impl MemOutbox {
         }
         self.kept = changed(&change, &self.stands);
         self.stands = changed(&change, &self.stands);
-        self.opened = 0;
         true
     }
 
@@ -212,13 +229,13 @@ impl MemOutbox {
         ensures err { OnErr result (self.new ≡ self.old) }
     {
         let alloc = *self.fails.allocator();
-        let bytes = content_of(&self.files, self.stands.removed, self.opened);
+        let bytes = content_of(&self.files, self.stands.removed);
         let given = Vec::from_slice(alloc, bytes)?;
         let noted = Vec::from_slice(alloc, bytes)?;
         if !put_first(&mut self.log, Entry::Opened(noted)) {
             return Err(OutOfMemory);
         }
-        self.opened = self.opened.saturating_add(1);
+        count_opening(&mut self.files, self.stands.removed);
         Ok(MemSource::new(given, self.piece, Vec::new(alloc)))
     }
 

@@ -1,11 +1,7 @@
-use Rattle.std.proofs.Common.{◌≡◌, ℕ, suc, ◌+◌, ◌≤◌, ◌∷◌, ◌++◌, Some, Ok, Err, OnOk, List, [], length, refl, sym, ◌∙◌, ap, subst, arith, Result}
-use Rattle.disk_model.specs.Disk.{Moves, Torn, IsWritten, Each}
+use Rattle.std.proofs.Common.{◌≡◌, ℕ, ◌+◌, length, sym, ◌∙◌, ap, subst, arith}
+use Rattle.disk_model.specs.Disk.{Each}
 use Rattle.stable_buffer.specs.Register.{Selects}
-use Rattle.stable_buffer.specs.Stands.{spelled}
-use Rattle.file_messages.specs.Files.{State, Between, Inside}
 use Rattle.file_messages.specs.Messages.{start_message}
-use Rattle.file_messages.specs.Assemblies.{progress_of}
-use Rattle.file_collector.specs.Registers.{StandsOn, HasStart}
 use Rattle.file_collector.proofs.Turns.{wrote, started_by}
 use Rattle.file_collector.proofs.turning.prepare.Goals as goal
 

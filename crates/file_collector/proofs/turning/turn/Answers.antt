@@ -1,10 +1,9 @@
-use Rattle.std.proofs.Common.{◌≡◌, ℕ, ◌+◌, List, sym, ◌∙◌, ap, subst}
+use Rattle.std.proofs.Common.{◌≡◌, ℕ, ◌+◌, ◌∙◌, ap, subst}
 use Rattle.disk_model.specs.Disk.{Moves, Each}
 use Rattle.stable_buffer.specs.Register.{MayTurnTo, Selects, SameOutside, value_of}
 use Rattle.stable_buffer.proofs.Cells.{value-selects}
-use Rattle.file_messages.specs.Assemblies.{progress_of}
 use Rattle.file_collector.specs.Held.{held_by}
-use Rattle.file_collector.specs.Registers.{StandsOn, MayTurn, HasStart, held}
+use Rattle.file_collector.specs.Registers.{StandsOn, HasStart, held}
 use Rattle.file_collector.proofs.Turns.{so_far_turns, staged, start_settled, turns, stored, all_turned, held_is}
 use Rattle.file_collector.proofs.turning.turn.Goals as goal
 

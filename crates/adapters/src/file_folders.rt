@@ -1,0 +1,80 @@
+//! The folders below the current one, by their names.
+
+ghost use Rattle.std.specs.Prelude.{◌≡◌, ◌≤◌};
+ghost use Rattle.pump_frame.specs.Counts.{raised};
+
+use crate::file_inbox::FileInbox;
+use crate::file_outbox::FileOutbox;
+use crate::folder_notes::FolderNotes;
+use folders::{Folders, FoldersFault};
+use pump_frame::raised;
+use std::alloc::Alloc;
+use std::fs::{File, Files};
+use std::io;
+use std::time::Clock;
+
+/// The folders below the current one, by their names. They tell how often one was not given, and nothing
+/// else. A folder that was given is locked, until it is taken back or this process ends: no other one is
+/// given it.
+#[derive(Drop)]
+pub struct FileFolders<'a, R> {
+    files: &'a R,
+    notes: &'a FolderNotes,
+    faults: u64,
+}
+
+impl<'a, R> FileFolders<'a, R> {
+    /// Folders of which none is given yet. What is noted of those that are given stands in `notes`, and so
+    /// does why one was not.
+    pub fn new(files: &'a R, notes: &'a FolderNotes) -> FileFolders<'a, R> {
+        FileFolders {
+            files,
+            notes,
+            faults: 0,
+        }
+    }
+
+    fn fault(&mut self, error: &io::Error) -> FoldersFault
+        ensures raised { self.new.faults ≡ raised self.old.faults }
+        ensures later { self.old.faults ≤ self.new.faults }
+    {
+        self.faults = raised(self.faults);
+        self.notes.note_fault(error);
+        FoldersFault
+    }
+}
+
+impl<'a, R: Files<File = File> + Alloc + Clock> Folders for FileFolders<'a, R> {
+    type Inbox = FileInbox<'a, R>;
+
+    type Outbox = FileOutbox<'a, R>;
+
+    // Anything may have been done.
+    ghost did = { λ s steps. Unit {0} };
+
+    ghost faults = { λ s. s.faults };
+
+    fn inbox(&mut self, name: &str, session: u32) -> Result<FileInbox<'a, R>, FoldersFault> {
+        match FileInbox::open(self.files, self.notes, name, session) {
+            Ok(inbox) => Ok(inbox),
+            Err(error) => Err(self.fault(&error)),
+        }
+    }
+
+    fn outbox(&mut self, name: &str, session: u32) -> Result<FileOutbox<'a, R>, FoldersFault> {
+        match FileOutbox::open(self.files, self.notes, name, session) {
+            Ok(outbox) => Ok(outbox),
+            Err(error) => Err(self.fault(&error)),
+        }
+    }
+
+    // The folder is closed, and so its lock is given up.
+    fn inbox_back(&mut self, _inbox: FileInbox<'a, R>) {}
+
+    // As with an inbox.
+    fn outbox_back(&mut self, _outbox: FileOutbox<'a, R>) {}
+
+    fn faults(&self) -> u64 {
+        self.faults
+    }
+}

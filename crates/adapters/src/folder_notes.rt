@@ -1,0 +1,45 @@
+//! What is noted of a folder while a command works in it.
+
+use std::cell::Cell;
+use std::io::{self, ErrorKind};
+
+/// What is noted of a folder while a command works in it, for the sentences at its end: the folder and the
+/// files that it gave are let go where the command ends, and who starts the command keeps this.
+#[derive(Drop)]
+pub struct FolderNotes {
+    why: Cell<Option<ErrorKind>>,
+    lying: Cell<u64>,
+}
+
+impl FolderNotes {
+    /// No call has failed, and no file was left lying.
+    pub fn new() -> FolderNotes {
+        FolderNotes {
+            why: Cell::new(None),
+            lying: Cell::new(0),
+        }
+    }
+
+    /// Why the last call that failed did, of the folder or of a file that it gave, where one has.
+    /// `WouldBlock` says that another process is at work in the folder, `StorageFull` that there is no room,
+    /// `NotFound` that the folder or the file isn't there, `NotADirectory` that what has the folder's name is
+    /// no folder, `PermissionDenied` that it is not the user's, `OutOfMemory` that there was no memory for a
+    /// list of it, and `InvalidInput` that what has the name of a file is no regular file.
+    pub fn why(&self) -> Option<ErrorKind> {
+        self.why.get()
+    }
+
+    /// How many files the last list of the folder left lying: their names are none of files that go from
+    /// folder to folder, or they are no regular files.
+    pub fn lying(&self) -> u64 {
+        self.lying.get()
+    }
+
+    pub(crate) fn note_fault(&self, error: &io::Error) {
+        self.why.set(Some(error.kind()));
+    }
+
+    pub(crate) fn note_lying(&self, count: u64) {
+        self.lying.set(count);
+    }
+}

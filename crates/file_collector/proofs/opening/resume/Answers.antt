@@ -1,0 +1,18 @@
+use Rattle.file_collector.proofs.Resumes.{still_durable, there_same}
+use Rattle.file_collector.proofs.opening.resume.Goals as goal
+
+pub returns-in-Ok-clause-durable : goal.returns-in-Ok-clause-durable
+returns-in-Ok-clause-durable g c = λ durable.
+    let mi = g.I.Inbox.told in
+    let md = g.I.Disk.Disk.told in
+    let e = c.in-Ok-Some.ensures in
+    still_durable mi c.args.inbox.now c.resume.new.self durable e.turns e.shown
+    (λ told. there_same md.reading mi.tells c.in-Ok-Some.field-0 c.args.count (mi.part c.args.inbox.now) (mi.part c.resume.new.self) told (e.found told) e.given e.left)
+
+pub returns-in-Ok-None-clause-durable : goal.returns-in-Ok-None-clause-durable
+returns-in-Ok-None-clause-durable g c = λ durable.
+    let mi = g.I.Inbox.told in
+    let md = g.I.Disk.Disk.told in
+    let e = c.in-Ok-None.ensures in
+    still_durable mi c.args.inbox.now c.resume.new.self durable e.turns e.shown
+    (λ told. there_same md.reading mi.tells c.in-Ok-None.field-0 c.args.count (mi.part c.args.inbox.now) (mi.part c.resume.new.self) told (e.found told) e.given e.left)

@@ -1,0 +1,55 @@
+-- What a collector finds when it opens.
+use Rattle.std.specs.Prelude.{◌≡◌, ℕ, ◌≤◌, List, [], length, Option, None, Some}
+use Rattle.pump_frame.specs.Counts.{Rose}
+use Rattle.disk_model.specs.Disk.{Meaning}
+use Rattle.file_messages.specs.Files.{State, Inside}
+use Rattle.file_messages.specs.Assemblies.{StandsFor}
+use Rattle.file_messages.specs.declared.assembly.Assembly.{Assembly}
+use Rattle.folders.specs.Placing.{Placing, Part, Missing, Lying, Given}
+use Rattle.file_collector.specs.Gathering.{IsWellBegun, IsGathering}
+use Rattle.file_collector.specs.Collecting.{HasRegister}
+use Rattle.file_collector.specs.Registers.{IsKept}
+use Rattle.file_collector.specs.declared.opening.Found.{Found}
+use Rattle.file_collector.specs.declared.values.CollectFault.{CollectFault}
+use Rattle.file_collector.specs.declared.values.CollectFault.TheVariants.{Folder, Register, Other, Damaged}
+
+-- a call of the register's disk failed, and its count is told; or its bytes are those of no collector
+abbrev pub IsFaultOf : {D : Type 0} → Meaning D → D → D → CollectFault → Type 0
+IsFaultOf m old new (Folder faults) = ⊥
+IsFaultOf m old new (Register faults) = (faults ≡ m.count new) × Rose (m.count old) (m.count new)
+IsFaultOf m old new Other = Unit {0}
+IsFaultOf m old new Damaged = Unit {0}
+
+-- a file has begun, and has no bytes yet
+pub record IsBegun (assembly : Assembly) : Type 0 where
+  pub name : List ℕ
+  pub size : ℕ
+  pub stands : StandsFor assembly (Inside name size [])
+  pub lawful : IsWellBegun (Inside name size [])
+
+-- the bytes of the part are added to a file without bytes, where it is to have as many
+pub record HasFed {D : Type 0} (m : Meaning D) (part : D) (count : ℕ) (old new : Assembly) : Type 0 where
+  pub bytes : List ℕ
+  pub number : length bytes ≡ count
+  pub of_part : m.tells → m.reading part ≡ bytes
+  pub fed : (name : List ℕ) (size : ℕ) → count ≤ size → StandsFor old (Inside name size [])
+      → StandsFor new (Inside name size bytes)
+
+-- the part that lies in a folder
+abbrev pub lying_part : Part → Option (List ℕ)
+lying_part Missing = None
+lying_part (Lying bytes) = Some bytes
+lying_part Given = None
+
+-- the folder and the part are ready for a message, after those that led to a state
+pub record IsFound {I D : Type 0} (mi : Placing I) (md : Meaning D) (inbox : I) (found : Found D) (state : State) : Type
+    0 where
+  pub gathering : IsGathering mi md (record { inbox = inbox; part = found.part; assembly = found.assembly }) state
+  pub register : HasRegister md found.register
+
+-- .. and the register stands for them; no file is lost
+pub record IsFoundAt {I D : Type 0} (mi : Placing I) (md : Meaning D) (inbox : I) (found : Found D) (count : ℕ)
+    (state : State) : Type 0 where
+  pub gathering : IsGathering mi md (record { inbox = inbox; part = found.part; assembly = found.assembly }) state
+  pub kept : IsKept md found.register count state
+  pub lost : found.lost ≡ None

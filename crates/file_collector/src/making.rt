@@ -1,0 +1,143 @@
+// The disk of a collector's register: whether it is made, and making it.
+ghost use Rattle.std.specs.Prelude.{◌≡◌, ◌≤◌, ◌↔◌, ◌∷◌, [], Some, None, true, false, length, take, drop, Err, OnOk};
+ghost use Rattle.std.specs.Prelude.{IfOk, IfErr, IsErr, IsTrue};
+ghost use Rattle.pump_frame.specs.Counts.{Rose};
+ghost use Rattle.disk_model.specs.Disk.{Moves, Same, Settled};
+ghost use Rattle.file_messages.specs.Files.{Between};
+ghost use Rattle.file_collector.specs.Registers.{RegisterStands, header, register_size};
+ghost use Rattle.file_collector.specs.Making.{new_register, IsRegister, IsOther};
+ghost use Rattle.file_collector.specs.declared.values.CollectFault.TheVariants.{Other, Register};
+ghost use Rattle.file_collector.specs.Opening.{IsFaultOf};
+
+use crate::values::CollectFault;
+use disk_model::{Disk, DiskFault};
+
+// How many bytes the disk has.
+const SIZE: u64 = 220;
+
+fn header() -> [u8; 32]
+    ensures { result ≡ header }
+{
+    let mut header = [0; 32];
+    header[..6].copy_from_slice(b"NPD1C\x01");
+    header
+}
+
+// What stands behind the mark of a new register.
+fn behind_mark() -> [u8; 216]
+    ensures { result ≡ drop 4 new_register }
+{
+    let mut bytes = [0; 216];
+    bytes[..2].copy_from_slice(b"C\x01");
+    bytes
+}
+
+fn device<D: Disk>(disk: &D) -> CollectFault
+    ensures { result ≡ Register (D.told.count disk.now) }
+{
+    CollectFault::Register {
+        faults: disk.faults(),
+    }
+}
+
+// The size of a disk, after a sync.
+fn synced_size<D: Disk>(disk: &mut D) -> Result<u64, DiskFault>
+    ensures size { IfOk result (λ n. D.told.tells → n ≡ length (D.told.reading disk.new)) }
+    ensures moves { Moves D.told Same disk.old disk.new }
+    ensures later { D.told.count disk.old ≤ D.told.count disk.new }
+    ensures rose { IsErr result → Rose (D.told.count disk.old) (D.told.count disk.new) }
+{
+    disk.sync()?;
+    disk.size()
+}
+
+// Makes the disk of a new register. Its mark comes last.
+fn write_new<D: Disk>(disk: &mut D) -> Result<(), DiskFault>
+    requires { D.told.tells → length (D.told.reading disk.old) ≤ register_size }
+    ensures made { OnOk result (D.told.tells → D.told.reading disk.new ≡ new_register) }
+    ensures settled { OnOk result (Settled D.told disk.new) }
+    ensures later { D.told.count disk.old ≤ D.told.count disk.new }
+    ensures rose { IsErr result → Rose (D.told.count disk.old) (D.told.count disk.new) }
+{
+    let behind = behind_mark();
+    disk.write_at(0, &[0; 4])?;
+    disk.sync()?;
+    disk.write_at(4, &behind)?;
+    disk.sync()?;
+    disk.write_at(0, b"NPD1")?;
+    disk.sync()
+}
+
+// The first bytes of a disk.
+fn read_prefix<D: Disk>(disk: &mut D) -> Result<[u8; 32], DiskFault>
+    ensures prefix { IfOk result (λ prefix. D.told.tells → prefix ≡ take 32 (D.told.reading disk.old)) }
+    ensures moves { Moves D.told Same disk.old disk.new }
+    ensures later { D.told.count disk.old ≤ D.told.count disk.new }
+    ensures rose { IsErr result → Rose (D.told.count disk.old) (D.told.count disk.new) }
+{
+    let mut prefix = [0; 32];
+    disk.read(0, &mut prefix)?;
+    Ok(prefix)
+}
+
+// Whether these are the first bytes of a register's disk, or of one that was not made to its end.
+fn told_by(prefix: &[u8; 32]) -> Option<bool>
+    ensures made { result ≡ Some true ↔ (prefix.now ≡ header) }
+    ensures none { result ≡ None → take 4 prefix.now ≡ 0 ∷ 0 ∷ 0 ∷ 0 ∷ [] → ⊥ }
+{
+    if *prefix == header() {
+        Some(true)
+    } else if prefix[..4] == [0; 4] {
+        Some(false)
+    } else {
+        None
+    }
+}
+
+// Whether the disk is that of a register. A disk that was not made to its end is none yet.
+fn is_made<D: Disk>(disk: &mut D) -> Result<bool, CollectFault>
+    ensures made { IfOk result (λ made. IsTrue made → D.told.tells → IsRegister (D.told.reading disk.old)) }
+    ensures whole { IfOk result (λ made. D.told.tells → IsRegister (D.told.reading disk.old)
+        → made ≡ true) }
+    ensures few { IfOk result (λ made. made ≡ false → D.told.tells
+        → length (D.told.reading disk.new) ≤ register_size) }
+    ensures moves { Moves D.told Same disk.old disk.new }
+    ensures cause { IfErr result (λ fault. IsFaultOf D.told disk.old disk.new fault) }
+    ensures other { result ≡ Err Other → D.told.tells → IsOther (D.told.reading disk.old) }
+    ensures later { D.told.count disk.old ≤ D.told.count disk.new }
+{
+    let size = match synced_size(disk) {
+        Ok(size) => size,
+        Err(DiskFault) => return Err(device(disk)),
+    };
+    if size < SIZE {
+        return Ok(false);
+    }
+    if size > SIZE {
+        return Err(CollectFault::Other);
+    }
+    match read_prefix(disk) {
+        Ok(prefix) => told_by(&prefix).ok_or(CollectFault::Other),
+        Err(DiskFault) => Err(device(disk)),
+    }
+}
+
+/// Makes the disk of a register where it is none yet.
+pub fn make<D: Disk>(disk: &mut D) -> Result<(), CollectFault>
+    ensures made { OnOk result (D.told.tells → IsRegister (D.told.reading disk.new)) }
+    ensures kept { OnOk result (D.told.tells → IsRegister (D.told.reading disk.old)
+        → D.told.reading disk.new ≡ D.told.reading disk.old) }
+    ensures new { OnOk result (D.told.tells → (IsRegister (D.told.reading disk.old) → ⊥)
+        → D.told.reading disk.new ≡ new_register) }
+    ensures cause { IfErr result (λ fault. IsFaultOf D.told disk.old disk.new fault) }
+    ensures other { result ≡ Err Other → D.told.tells → IsOther (D.told.reading disk.old) }
+    ensures later { D.told.count disk.old ≤ D.told.count disk.new }
+{
+    if is_made(disk)? {
+        return Ok(());
+    }
+    match write_new(disk) {
+        Ok(()) => Ok(()),
+        Err(DiskFault) => Err(device(disk)),
+    }
+}

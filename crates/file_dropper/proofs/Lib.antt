@@ -1,0 +1,10 @@
+pub mod ReadingSteps
+pub mod Passing
+pub mod Outside
+pub mod Counting
+pub mod Behind
+pub mod Faults
+pub mod Steps
+pub mod Resuming
+pub mod Answering
+pub mod Whole

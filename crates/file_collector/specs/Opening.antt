@@ -13,7 +13,8 @@ use Rattle.file_collector.specs.declared.opening.Found.{Found}
 use Rattle.file_collector.specs.declared.values.CollectFault.{CollectFault}
 use Rattle.file_collector.specs.declared.values.CollectFault.TheVariants.{Folder, Register, Other, Damaged}
 
--- a call of the register's disk failed, and its count is told; or its bytes are those of no collector
+-- never a call of the folder; of a failed call of the register's disk, the count of its faults. Of the
+-- other two faults it says nothing
 abbrev pub IsFaultOf : {D : Type 0} → Meaning D → D → D → CollectFault → Type 0
 IsFaultOf m old new (Folder faults) = ⊥
 IsFaultOf m old new (Register faults) = (faults ≡ m.count new) × Rose (m.count old) (m.count new)

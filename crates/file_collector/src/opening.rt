@@ -144,9 +144,6 @@ pub fn feed<D: Disk>(part: &mut D, assembly: &mut Assembly, count: u64) -> Resul
     Ok(())
 }
 
-// The numbers of messages are below it.
-const MOST: u64 = 1 << 48;
-
 // The register on a disk, which is made where it is none yet.
 fn open_register<D: Disk + Drop>(mut disk: D) -> Result<Register<D>, CollectFault>
     ensures register { IfOk result (λ register. HasRegister D.told register) }
@@ -160,7 +157,7 @@ fn open_register<D: Disk + Drop>(mut disk: D) -> Result<Register<D>, CollectFaul
     match Register::open(disk) {
         Ok(register) => {
             // No collector counts more messages than there are numbers.
-            if register.value().0 > MOST {
+            if register.value().0 > LIMIT {
                 return Err(CollectFault::Damaged);
             }
             Ok(register)

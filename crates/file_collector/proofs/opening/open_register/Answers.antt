@@ -6,8 +6,8 @@ use Rattle.file_collector.specs.Making.{new_register}
 use Rattle.file_collector.proofs.Made.{new_stands}
 use Rattle.file_collector.proofs.opening.open_register.Goals as goal
 
-pub returns-else-value-gt-MOST-clause-new : goal.returns-else-value-gt-MOST-clause-new
-returns-else-value-gt-MOST-clause-new g c = λ none told.
+pub returns-else-value-gt-LIMIT-clause-new : goal.returns-else-value-gt-LIMIT-clause-new
+returns-else-value-gt-LIMIT-clause-new g c = λ none told.
     let m = g.D.Disk.told in
     let e = c.in-Ok.ensures in
     let r = c.in-Ok.register in

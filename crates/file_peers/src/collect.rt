@@ -17,7 +17,7 @@ use peers::{Waited, await_frame, plain_frame, send_frame};
 use pump_frame::{Frame, Kind, SessionRow};
 use pump_link::{Link, Sink};
 
-/// Why High's party ended; `docs/formats.md`, "Files from folder to folder", says when each comes.
+/// Why High's party ended (`docs/guarantees.md`, "file_peers").
 #[derive(Clone, Copy, PartialEq, Eq, Debug)]
 pub enum CollectEnd {
     /// The link has ended, failed, or shown bad bytes.
@@ -143,8 +143,7 @@ where
           link = C.faults link.old;
           now_link = C.faults link.new;
           out = O.faults out.old;
-          now_out = O.faults
-              out.new;
+          now_out = O.faults out.new;
           other = 0;
           now_other = 0;
         })
@@ -193,8 +192,7 @@ where
           link = C.faults link.old;
           now_link = C.faults link.new;
           out = O.faults out.old;
-          now_out = O.faults
-              out.new;
+          now_out = O.faults out.new;
           other = 0;
           now_other = 0;
         })

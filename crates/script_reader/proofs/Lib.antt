@@ -13,6 +13,7 @@ pub mod Generating
 pub mod Heads
 pub mod Hearing
 pub mod Leading
+pub mod LeadingNumbers
 pub mod Levels
 pub mod LineEnds
 pub mod LineLaws
@@ -24,6 +25,7 @@ pub mod LowAlike
 pub mod LowAlone
 pub mod LowAside
 pub mod LowFunction
+pub mod MarkedDigits
 pub mod MomentLaws
 pub mod Named
 pub mod NewSessions

@@ -1,6 +1,8 @@
 // The fields of a line, read one by one.
 ghost use Rattle.std.specs.Prelude.{◌≡◌, ℕ, ◌+◌, ◌^◌, ◌<◌, ◌≤◌, List, [], ◌∷◌, length, IsSome, IfSome, MatchOption};
-ghost use Rattle.std.specs.Prelude.{IsTrue, ◌↔◌, option_map, position};
+ghost use Rattle.std.specs.Prelude.{IsTrue, ◌↔◌, option_map, position, take, Some};
+ghost use Rattle.std.specs.List.{slice_split};
+ghost use Rattle.std.specs.Str.Parse.{AllDigits, digits_value};
 ghost use Rattle.std.specs.Option.{option_copied};
 ghost use Rattle.script_reader.specs.Fields.{is_space};
 ghost use Rattle.script_reader.specs.Parsing.{Reads, field_at, IsPlain, number, word, name, choice, is_slash, pair};
@@ -60,8 +62,6 @@ pub(crate) fn is_word(field: &[u8], word: &[u8]) -> bool
 
 #[tactic(auto, using(crate::proofs::FieldLaws::reads_field))]
 impl<'a> Fields<'a> {
-    ghost use Rattle.std.specs.List.{slice_split};
-
     /// The fields of a line, without its end.
     pub fn new(bytes: &'a [u8]) -> Self
         ensures { result ≡ slice_split is_space bytes.now }
@@ -82,16 +82,7 @@ impl<'a> Fields<'a> {
         ensures { MatchOption result (self.old ≡ []) (λ field. self.old ≡ field.now ∷ self.new) }
     {
         let rest = self.rest?;
-        match first_space(rest) {
-            Some(at) => {
-                self.rest = Some(&rest[at + 1..]);
-                Some(&rest[..at])
-            }
-            None => {
-                self.rest = None;
-                Some(rest)
-            }
-        }
+        Some(self.take_field(rest, first_space(rest)))
     }
 
     /// As `next`, for a field that may be long.
@@ -99,14 +90,24 @@ impl<'a> Fields<'a> {
         ensures { MatchOption result (self.old ≡ []) (λ field. self.old ≡ field.now ∷ self.new) }
     {
         let rest = self.rest?;
-        match late_space(rest) {
+        Some(self.take_field(rest, late_space(rest)))
+    }
+
+    /// The next field, of the bytes that are left and of the place of their first space.
+    #[inline(always)]
+    fn take_field(&mut self, rest: &'a [u8], space: Option<usize>) -> &'a [u8]
+        requires rest { self.old ≡ slice_split is_space rest.now }
+        requires space { space ≡ position is_space rest.now }
+        ensures { self.old ≡ result.now ∷ self.new }
+    {
+        match space {
             Some(at) => {
                 self.rest = Some(&rest[at + 1..]);
-                Some(&rest[..at])
+                &rest[..at]
             }
             None => {
                 self.rest = None;
-                Some(rest)
+                rest
             }
         }
     }
@@ -116,14 +117,22 @@ impl<'a> Fields<'a> {
         ensures reads { Reads result self.new (field_at (number bound) self.old) }
         ensures below { IfSome result (λ n. n < bound) }
     {
-        number_of(self.next()?, bound)
+        let n = self.count()?;
+        if n < bound { Some(n) } else { None }
     }
 
     /// A number without another bound than 2^64.
     pub fn count(&mut self) -> Option<u64>
         ensures { Reads result self.new (field_at (number (2 ^ 64)) self.old) }
     {
-        any_number_of(self.next()?)
+        let rest = self.rest?;
+        match short_number(rest) {
+            Some((n, space)) => {
+                self.take_field(rest, space);
+                Some(n)
+            }
+            None => any_number_of(self.next()?),
+        }
     }
 
     /// A number below 2^32.
@@ -233,28 +242,51 @@ fn any_number_of(field: &[u8]) -> Option<u64>
     if !is_plain(field) {
         return None;
     }
-    if field.len() <= 19 {
-        short_number_of(field)
+    let (n, count) = leading_digits(field);
+    if count == field.len() {
+        Some(n)
     } else {
         long_number_of(field)
     }
 }
 
-/// As `any_number_of`: of so few digits no number is too great.
-fn short_number_of(field: &[u8]) -> Option<u64>
-    requires plain { IsPlain field.now }
-    requires short { length field.now ≤ 19 }
-    ensures { result ≡ number (2 ^ 64) field.now }
+/// The number of the digits in front, and how many they are: at most 19, of which no number is too great.
+fn leading_digits(bytes: &[u8]) -> (u64, usize)
+    ensures count { result.1 ≤ length bytes.now }
+    ensures few { result.1 ≤ 19 }
+    ensures digits { AllDigits 10 (take result.1 bytes.now) }
+    ensures value { result.0 ≡ digits_value 10 (take result.1 bytes.now) }
 {
     let mut n: u64 = 0;
-    'digits: for i in 0..field.len() {
-        let byte = field[i];
+    let most = bytes.len().min(19);
+    'digits: for i in 0..most {
+        let byte = bytes[i];
         if !byte.is_ascii_digit() {
-            return None;
+            return (n, i);
         }
         n = n * 10 + u64::from(byte - b'0');
     }
-    Some(n)
+    (n, most)
+}
+
+/// The number in front of the first space, and where that is; `None` where the field there is no number,
+/// and maybe where it has 20 digits.
+fn short_number(bytes: &[u8]) -> Option<(u64, Option<usize>)>
+    ensures space { IfSome result (λ found. found.1 ≡ position is_space bytes.now) }
+    ensures number { IfSome result (λ found. (left : List (List ℕ)) × Reads (Some found.0) left (field_at (number (2
+        ^ 64)) (slice_split is_space bytes.now))) }
+{
+    let (n, count) = leading_digits(bytes);
+    if !is_plain(&bytes[..count]) {
+        return None;
+    }
+    if count == bytes.len() {
+        Some((n, None))
+    } else if bytes[count] == b' ' {
+        Some((n, Some(count)))
+    } else {
+        None
+    }
 }
 
 fn long_number_of(field: &[u8]) -> Option<u64>

@@ -10,7 +10,7 @@ ghost use Rattle.script_reader.specs.Typed.{behind, IsBehind, IsTypedRow, IsType
 
 use crate::head::{ArrivingHead, LineHead};
 use crate::line::{Line, ToldFeedback};
-use crate::printing::{put, put_field, put_held, put_hex, put_number, put_prefix};
+use crate::printing::{put, put_field, put_held, put_hex, put_marked, put_prefix};
 use arrayvec::ArrayVec;
 use pump_frame::{Name, SessionRow};
 
@@ -109,8 +109,7 @@ fn put_average<const N: usize>(into: &mut ArrayVec<u8, N>, count: u32, average: 
     ensures count { count < 2 ^ 32 }
 {
     put_field(into, u64::from(count));
-    put(into, b"/");
-    put_number(into, u64::from(average));
+    put_marked(into, b'/', u64::from(average));
 }
 
 /// A space and what is told of the passage.

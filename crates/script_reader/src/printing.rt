@@ -14,7 +14,7 @@ use crate::event::{Event, EventHead};
 use crate::fault::Fault;
 use arrayvec::ArrayVec;
 use disk_model::Role;
-use itoa::Buffer;
+use itoa::write_digits;
 use pump_core::{Reply, Seen};
 use pump_frame::{Frame, Kind, Payload};
 
@@ -29,23 +29,41 @@ pub(crate) fn put<const N: usize>(into: &mut ArrayVec<u8, N>, text: &[u8])
     into.try_extend_from_slice(text).unwrap();
 }
 
-pub(crate) fn put_number<const N: usize>(into: &mut ArrayVec<u8, N>, number: u64)
-    requires { array_vec_len into.old + 40 ≤ N }
-    ensures items { into.new.items ≡ into.old.items ++ decimal number }
-    ensures len { array_vec_len into.new ≤ array_vec_len into.old + 40 }
+/// A mark and a number. A number of one digit, as most sessions have, is put without a call.
+#[inline(always)]
+pub(crate) fn put_marked<const N: usize>(into: &mut ArrayVec<u8, N>, mark: u8, number: u64)
+    requires { array_vec_len into.old + 41 ≤ N }
+    ensures items { into.new.items ≡ into.old.items ++ mark ∷ decimal number }
+    ensures len { array_vec_len into.new ≤ array_vec_len into.old + 41 }
 {
-    let mut buffer = Buffer::new();
-    put(into, buffer.format(number).as_bytes());
+    if number < 10 {
+        put(into, &[mark, b'0' + number as u8]);
+    } else {
+        put_long(into, mark, number);
+    }
+}
+
+/// As `put_marked`, for any number.
+#[inline(never)]
+fn put_long<const N: usize>(into: &mut ArrayVec<u8, N>, mark: u8, number: u64)
+    requires { array_vec_len into.old + 41 ≤ N }
+    ensures items { into.new.items ≡ into.old.items ++ mark ∷ decimal number }
+    ensures len { array_vec_len into.new ≤ array_vec_len into.old + 41 }
+{
+    // The digits come to the end, and what stands before them is the mark.
+    let mut text = [mark; 21];
+    let first = write_digits(number, &mut text, 21);
+    put(into, &text[first - 1..]);
 }
 
 /// A space and a number.
+#[inline(always)]
 pub(crate) fn put_field<const N: usize>(into: &mut ArrayVec<u8, N>, number: u64)
     requires { array_vec_len into.old + 41 ≤ N }
     ensures items { into.new.items ≡ into.old.items ++ 32 ∷ decimal number }
     ensures len { array_vec_len into.new ≤ array_vec_len into.old + 41 }
 {
-    put(into, b" ");
-    put_number(into, number);
+    put_marked(into, b' ', number);
 }
 
 /// A space and two digits for each byte: at most `M` digits.

@@ -123,6 +123,7 @@ impl Connection {
     }
 
     /// A frame joins what waits, where there is room for it.
+    #[inline(always)]
     fn join_frame(&mut self, frame: Frame) -> bool
         requires { HasNumber frame }
         ensures { JoinsFrame self.old self.new frame result }

@@ -29,6 +29,7 @@ impl Model for WaitingList {
 }
 
 /// The cells behind those that were taken come to the room's begin.
+#[inline(never)]
 fn move_up(cells: &mut Vec<Waiting>, taken: usize)
     requires { taken ≤ vec_len cells.old }
     ensures items { cells.new.items ≡ drop taken cells.old.items }
@@ -60,16 +61,15 @@ impl WaitingList {
     }
 
     /// One more waits; there is room for it.
+    #[inline(always)]
     pub(crate) fn push(&mut self, next: Waiting)
         requires { length self.old < 64 }
         ensures { self.new ≡ self.old ++ next ∷ [] }
     {
-        if self.cells.len() < 64 {
-            self.cells.push_reserved(next);
-            return;
+        if self.cells.len() >= 64 {
+            move_up(&mut self.cells, self.taken);
+            self.taken = 0;
         }
-        move_up(&mut self.cells, self.taken);
-        self.taken = 0;
         self.cells.push_reserved(next);
     }
 

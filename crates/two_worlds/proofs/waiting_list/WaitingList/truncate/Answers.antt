@@ -1,4 +1,4 @@
-use Rattle.std.proofs.Common.{List, drop, take, ap, ◌∙◌}
+use Rattle.std.proofs.Common.{drop, take, ap, ◌∙◌}
 use Rattle.std.proofs.lemmas.List.{drop-take}
 use Rattle.two_worlds.proofs.waiting_list.WaitingList.truncate.Goals as goal
 

@@ -1,5 +1,5 @@
 -- What a collector finds where a file has begun.
-use Rattle.std.proofs.Common.{◌≡◌, ◌^◌, ℕ, zero, suc, ◌≤◌, true, nat_le, if◌then◌else◌, List, [], ◌∷◌, length, take, Option, None, Some, option_map, Result, Ok, Err, IfOk, refl, sym, ◌∙◌, ap, subst, arith}
+use Rattle.std.proofs.Common.{◌≡◌, ◌^◌, ℕ, zero, suc, ◌≤◌, true, nat_le, if◌then◌else◌, List, [], ◌∷◌, length, take, Option, None, Some, option_map, Result, Ok, Err, IfOk, OnOk, refl, sym, ◌∙◌, ap, subst, arith}
 use Rattle.std.proofs.lemmas.Bool.Decides.{nat_tests}
 use Rattle.disk_model.specs.Disk.{Meaning, Moves, Same, Settled}
 use Rattle.disk_model.proofs.Run.{settled_same}
@@ -13,12 +13,20 @@ use Rattle.folders.specs.Placing.{Placing, Part, Missing, Lying, Given, IsDurabl
 use Rattle.file_collector.specs.Registers.{RegisterStands, IsKept, held}
 use Rattle.file_collector.specs.Collecting.{HasRegister}
 use Rattle.file_collector.specs.Gathering.{PartStands}
-use Rattle.file_collector.specs.Opening.{HasFed, IsBegun, IsFound, IsFoundAt, lying_part}
+use Rattle.file_collector.specs.Opening.{HasFed, IsBegun, IsFound, IsFoundWith, lying_part}
 use Rattle.file_collector.specs.declared.opening.Found.{Found}
 
 pub if_ok : {T E : Type 0} (r : Result T E) (P Q : T → Type 0) → ((t : T) → P t → Q t) → IfOk r P → IfOk r Q
 if_ok (Ok t) P Q f p = f t p
 if_ok (Err e) P Q f p = tt
+
+pub on_ok : {T E : Type 0} (r : Result T E) (A : Type 0) → A → OnOk r A
+on_ok (Ok t) A a = a
+on_ok (Err e) A a = tt
+
+pub on_ok_by : {T E : Type 0} (r : Result T E) (A B : Type 0) → (A → B) → OnOk r A → OnOk r B
+on_ok_by (Ok t) A B f a = f a
+on_ok_by (Err e) A B f a = tt
 
 pub both_ok : {T E : Type 0} (r : Result T E) (P Q : T → Type 0) → IfOk r P → IfOk r Q → IfOk r (λ t. P t × Q t)
 both_ok (Ok t) P Q p q = (p, q)
@@ -26,6 +34,9 @@ both_ok (Err e) P Q p q = tt
 
 some_is : {X : Type 0} (a b : X) → Some a ≡ Some b → a ≡ b
 some_is a b e = cc e
+
+pub progress_name : (progress : Progress) (name : List ℕ) (size : ℕ) (bytes : List ℕ) (found : Option Progress) → found ≡ Some progress → found ≡ progress_of (Inside name size bytes) → progress.name ≡ name
+progress_name progress name size bytes found is of = ap (λ (p : Progress). p.name) (some_is progress (record { name = name; size = size; bytes = length bytes }) (sym is ∙ of))
 
 pub progress_size : (progress : Progress) (name : List ℕ) (size : ℕ) (bytes : List ℕ) (found : Option Progress) → found ≡ Some progress → found ≡ progress_of (Inside name size bytes) → progress.size ≡ size
 progress_size progress name size bytes found is of = ap (λ (p : Progress). p.size) (some_is progress (record { name = name; size = size; bytes = length bytes }) (sym is ∙ of))
@@ -63,6 +74,11 @@ module _ {D : Type 0} (m : Meaning D) where
     count = subst (λ (n : ℕ). n ≤ 2 ^ 48) (sym (ap (λ (v : ℕ × ℕ). v.0) value)) has.count;
   }
 
+  -- a part that was found has as many bytes
+  pub found_some : (part : Option D) (one : D) (n k : ℕ) (p : Part) → part ≡ Some one → option_map m.reading part ≡ first_of n p → n ≡ k → first_of k p ≡ None → ⊥
+  found_some part one n k p is found same none =
+      let no : Some (m.reading one) ≡ None = ap (option_map m.reading) (sym is) ∙ found ∙ ap (λ j. first_of j p) same ∙ none in absurd (cc no)
+
   pub none_not : {X : Type 0} (reading : D → X) (x : X) → option_map reading None ≡ Some x → ⊥
   none_not reading x e = absurd (cc e)
 
@@ -85,8 +101,9 @@ module _ {I D : Type 0} (mi : Placing I) (md : Meaning D) where
         },
       )
 
-  pub found_between : (inbox : I) (found : Found D) (count : ℕ) → found.part ≡ None → StandsFor found.assembly Between → IsDurable mi inbox → IsKept md found.register count Between → found.lost ≡ None → IsFoundAt mi md inbox found count Between
-  found_between inbox found count part assembly durable kept lost = record {
+  pub found_between : (inbox : I) (found : Found D) (count : ℕ) (file : Option (List ℕ)) → found.part ≡ None → StandsFor found.assembly Between → IsDurable mi inbox → IsKept md found.register count Between → found.lost ≡ file
+      → IsFoundWith mi md inbox found count Between file
+  found_between inbox found count file part assembly durable kept lost = record {
     gathering = record {
       assembly = assembly;
       come = record { part = tt; given = λ told. tt; durable = durable };

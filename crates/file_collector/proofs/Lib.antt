@@ -8,3 +8,5 @@ pub mod Made
 pub mod Resumes
 pub mod Found
 pub mod Opens
+pub mod Causes
+pub mod Sound

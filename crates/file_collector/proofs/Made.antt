@@ -1,5 +1,5 @@
 -- The bytes of a new register, as they are written, and what they stand for.
-use Rattle.std.proofs.Common.{◌≡◌, ℕ, ◌≤◌, List, [], ◌∷◌, ◌++◌, length, take, drop, refl, ◌∙◌, ap, arith, length-drop}
+use Rattle.std.proofs.Common.{◌≡◌, ℕ, ◌≤◌, List, [], ◌∷◌, ◌++◌, length, take, drop, refl, ◌∙◌, ap}
 use Rattle.std.proofs.lemmas.List.{drop_all}
 use Rattle.disk_model.specs.Disk.{IsWritten}
 use Rattle.stable_buffer.specs.Numbers.{number_at}
@@ -8,12 +8,9 @@ use Rattle.file_messages.specs.Files.{Between}
 use Rattle.file_collector.specs.Registers.{RegisterStands, register_size}
 use Rattle.file_collector.specs.Making.{new_register}
 
-pub is_made : (old first second third : List ℕ) → length old ≤ register_size → IsWritten old 0 (0 ∷ 0 ∷ 0 ∷ 0 ∷ []) first → IsWritten first 4 (drop 4 new_register) second → IsWritten second 0 (78 ∷ 80 ∷ 68 ∷ 49 ∷ []) third
-    → third ≡ new_register
-is_made old first second third few one two three =
-    let size : length first ≤ 220 = omega (arith, few, ap length one, length-drop 4 old) in
+pub is_made : (first second third : List ℕ) → length first ≤ register_size → take 4 first ≡ 0 ∷ 0 ∷ 0 ∷ 0 ∷ [] → IsWritten first 4 (drop 4 new_register) second → IsWritten second 0 (78 ∷ 80 ∷ 68 ∷ 49 ∷ []) third → third ≡ new_register
+is_made first second third size start two three =
     let none : drop 220 first ≡ [] = drop_all 220 first size in
-    let start : take 4 first ≡ 0 ∷ 0 ∷ 0 ∷ 0 ∷ [] = ap (λ (l : List ℕ). take 4 l) one in
     three ∙ ap (λ (l : List ℕ). 78 ∷ 80 ∷ 68 ∷ 49 ∷ drop 4 l) (two ∙ (λ i. start i ++ drop 4 new_register ++ none i))
 
 new_value : value_of new_register ≡ (0, 0)

@@ -1,22 +1,22 @@
 -- What a collector that opens has taken.
-use Rattle.std.proofs.Common.{◌≡◌, ⊎_elim, ℕ, zero, suc, ◌+◌, ◌<◌, ◌≤◌, true, false, List, [], ◌∷◌, ◌++◌, length, take, get_or, None, Some, refl, sym, ◌∙◌, ap, subst, arith}
+use Rattle.std.proofs.Common.{◌≡◌, ⊎_elim, ℕ, zero, suc, ◌+◌, ◌<◌, ◌≤◌, true, false, List, [], ◌∷◌, ◌++◌, length, take, get_or, Option, None, Some, refl, sym, ◌∙◌, ap, subst, arith}
 use Rattle.std.proofs.lemmas.List.{length-take-le}
 use Rattle.disk_model.specs.Disk.{Meaning}
 use Rattle.file_messages.specs.Messages.{message_of}
 use Rattle.file_messages.specs.Files.{State, Between, Inside, after, state_after, files}
 use Rattle.file_messages.proofs.Taking.{whole_given}
-use Rattle.folders.specs.Placing.{Placing, Part, Missing, Lying, Given, is_there}
+use Rattle.folders.specs.Placing.{Placing, Part, Missing, Lying, Given, is_there, first_of}
 use Rattle.file_collector.specs.Registers.{RegisterStands, IsKept}
 use Rattle.file_collector.specs.Gathering.{IsWellBegun, PartStands}
 use Rattle.file_collector.specs.Collecting.{published, HasTaken, taken_count}
-use Rattle.file_collector.specs.Opening.{IsFoundAt, lying_part}
-use Rattle.file_collector.specs.Reopening.{OpensOn}
+use Rattle.file_collector.specs.Opening.{IsFoundAt, IsFoundWith, lying_part}
+use Rattle.file_collector.specs.Reopening.{OpensOn, IsOpenedAs}
 use Rattle.file_collector.specs.declared.collector.Collector.{Collector}
 use Rattle.file_collector.specs.declared.opening.Found.{Found}
 use Rattle.file_collector.proofs.Steps.{completes}
 use Rattle.file_collector.proofs.Collects.{begun_after, state_next}
 
-begun_all : (state : State) (messages : List (List ℕ)) → IsWellBegun state → IsWellBegun (state_after state messages)
+pub begun_all : (state : State) (messages : List (List ℕ)) → IsWellBegun state → IsWellBegun (state_after state messages)
 begun_all state [] h = h
 begun_all state (m ∷ ms) h = begun_all (after state (message_of m)) ms (begun_after state m h)
 
@@ -41,6 +41,10 @@ opened inbox found = record {
   lost = found.lost;
 }
 
+pub opened_as : {I D : Type 0} (mi : Placing I) (md : Meaning D) (inbox : I) (found : Found D) (count : ℕ) (state : State) (file : Option (List ℕ)) → IsFoundWith mi md inbox found count state file
+    → IsOpenedAs mi md (record { gatherer = record { inbox = inbox; part = found.part; assembly = found.assembly }; register = found.register; is_placed = false; is_open = true; lost = found.lost }) count state file
+opened_as mi md inbox found count state file is = record { gathering = is.gathering; kept = is.kept; lost = is.lost }
+
 module _ {I D : Type 0} (mi : Placing I) (md : Meaning D) (old new : I) (found : Found D) (shown : mi.shown new ≡ mi.shown old) where
   at_count : (messages : List (List ℕ)) (count : ℕ) → count ≤ length messages → published (mi.shown old) ≡ files (take count messages) → IsFoundAt mi md new found count (state_after Between (take count messages))
       → (n : ℕ) → n ≤ count → HasTaken mi md (opened new found) (take (taken_count (opened new found)) messages) × (n ≤ taken_count (opened new found)) × (found.lost ≡ None)
@@ -60,8 +64,8 @@ module _ {I D : Type 0} (mi : Placing I) (md : Meaning D) (old new : I) (found :
 
   pub opens_here : mi.tells → md.tells → (messages : List (List ℕ)) → (on : OpensOn mi old messages)
       → ((count : ℕ) (state : State) (bytes : List ℕ) → mi.register old ≡ Some bytes → RegisterStands count state bytes → IsWellBegun state → PartStands state (lying_part (mi.part old)) → IsFoundAt mi md new found count state)
-      → ((count : ℕ) (name : List ℕ) (size : ℕ) (held bytes : List ℕ) → mi.register old ≡ Some bytes → RegisterStands count (Inside name size held) bytes → IsWellBegun (Inside name size held) → length held ≡ size
-      → mi.part old ≡ Missing → IsFoundAt mi md new found (count + 1) Between)
+      → ((count : ℕ) (name : List ℕ) (size : ℕ) (held bytes : List ℕ) → mi.register old ≡ Some bytes → RegisterStands count (Inside name size held) bytes → IsWellBegun (Inside name size held)
+      → first_of (length held) (mi.part old) ≡ None → length held ≡ size → IsFoundAt mi md new found (count + 1) Between)
       → HasTaken mi md (opened new found) (take (taken_count (opened new found)) messages) × (on.fits.count ≤ taken_count (opened new found)) × (found.lost ≡ None)
   opens_here told tells messages on here ahead =
       let count = on.fits.count in
@@ -77,5 +81,5 @@ module _ {I D : Type 0} (mi : Placing I) (md : Meaning D) (old new : I) (found :
       ap (λ (l : List (List ℕ)). state_after Between l) (take_next messages count is.more) ∙ state_next (take count messages) message ∙ (λ i. after (w.was i) (w.message i)) in
       at_count messages (count + 1) (omega (arith, is.more)) is.are_shown
       (subst (λ (s : State). IsFoundAt mi md new found (count + 1) s) (sym next)
-      (ahead count w.name w.size w.bytes on.bytes on.register stands (subst IsWellBegun w.was begun) w.all (missing (mi.part old) is.gone))) count (omega arith))
+      (ahead count w.name w.size w.bytes on.bytes on.register stands (subst IsWellBegun w.was begun) (ap (first_of (length w.bytes)) (missing (mi.part old) is.gone)) w.all)) count (omega arith))
       on.fits.either

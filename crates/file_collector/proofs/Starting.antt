@@ -8,12 +8,14 @@ use Rattle.stable_buffer.specs.Stands.{spelled}
 use Rattle.file_messages.specs.FileNames.{IsFileName}
 use Rattle.file_messages.specs.Messages.{Start, message_of, start_message}
 use Rattle.file_messages.specs.Files.{State, Between, Inside, after}
-use Rattle.file_messages.specs.Assemblies.{StandsFor}
+use Rattle.file_messages.specs.Assemblies.{StandsFor, answer}
 use Rattle.file_messages.specs.declared.assembly.Assembly.{Assembly}
 use Rattle.file_messages.proofs.Starts.{is_start}
 use Rattle.file_messages.proofs.FirstBytes.{a_start}
 use Rattle.file_messages.proofs.Names.{short_name}
+use Rattle.file_messages.specs.declared.assembly.Step.TheVariants.{Started}
 use Rattle.file_collector.specs.Registers.{HasStart}
+use Rattle.file_collector.specs.Closed.{HasNoStart}
 
 start_is : (name : List ℕ) (size : ℕ) → IsFileName name → size < 2 ^ 48 → message_of (start_message name size) ≡ Start name size
 unfolding start_message
@@ -61,3 +63,17 @@ start_found name size bytes disk start l assembly lawful few stands long from is
     let count : l ≡ length message = long ∙ length_there message disk stands (omega (arith, short)) in
     let same : start ≡ message = from ∙ ap (λ k. take k (drop 82 disk)) count ∙ message_there message disk stands in
     subst (λ (s : State). StandsFor assembly s) (ap (λ (m : List ℕ). after Between (message_of m)) same ∙ ap (after Between) (start_is name size lawful few)) is
+
+-- where too long a message stands, or one that begins no file, there is no start of a file
+pub no_start_long : (disk : List ℕ) (l : ℕ) → l ≡ length_at disk 80 → 138 < l → HasNoStart disk
+no_start_long disk l is long name size begun start =
+    let short = start_length name size begun.0 in
+    absurd (omega (arith, is, long, short, length_there (start_message name size) disk start (omega (arith, short))))
+
+pub no_start_other : (disk start : List ℕ) (l : ℕ) → l ≡ length_at disk 80 → start ≡ take l (drop 82 disk) → (answer Between (message_of start) ≡ Started → ⊥) → HasNoStart disk
+no_start_other disk start l long from other name size begun stands =
+    let message = start_message name size in
+    let short = start_length name size begun.0 in
+    let count : l ≡ length message = long ∙ length_there message disk stands (omega (arith, short)) in
+    let same : start ≡ message = from ∙ ap (λ k. take k (drop 82 disk)) count ∙ message_there message disk stands in
+    other (ap (λ (m : List ℕ). answer Between (message_of m)) same ∙ ap (answer Between) (start_is name size begun.0 begun.1))

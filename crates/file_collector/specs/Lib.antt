@@ -7,3 +7,4 @@ pub mod Collecting
 pub mod Opening
 pub mod Making
 pub mod Reopening
+pub mod Closed

@@ -1,5 +1,5 @@
 -- The disk of a new register.
-use Rattle.std.specs.Prelude.{◌≡◌, ◌⊎◌, ℕ, ◌<◌, List, [], ◌∷◌, ◌++◌, length, take, replicate}
+use Rattle.std.specs.Prelude.{◌≡◌, ◌⊎◌, ℕ, ◌<◌, List, [], ◌∷◌, ◌++◌, length, take, drop, replicate}
 use Rattle.file_collector.specs.Registers.{header, register_size}
 
 -- the header, and zeros: no message is counted
@@ -11,7 +11,20 @@ pub record IsRegister (disk : List ℕ) : Type 0 where
   pub size : length disk ≡ register_size
   pub begins : take 32 disk ≡ header
 
--- it is too long, or begins with neither the header nor four zeros
+-- it has no mark, or behind another mark it is a new one
+abbrev pub IsUnmarked : List ℕ → Type 0
+IsUnmarked disk = (take 4 disk ≡ 0 ∷ 0 ∷ 0 ∷ 0 ∷ [])
+    ⊎ ((take 32 disk ≡ header → ⊥) × (drop 4 disk ≡ drop 4 new_register))
+
+-- one that was not made to its end has too few bytes, or no mark
+abbrev pub IsUnmade : List ℕ → Type 0
+IsUnmade disk = (length disk < register_size) ⊎ ((length disk ≡ register_size) × IsUnmarked disk)
+
+-- what is made of it: it stays as it is, or where it was not made to its end it is a new one
+abbrev pub IsMadeOf : List ℕ → List ℕ → Type 0
+IsMadeOf old new = (IsRegister old × (new ≡ old)) ⊎ (IsUnmade old × (new ≡ new_register))
+
+-- another's is too long, or neither begins with the header nor was left without its mark
 abbrev pub IsOther : List ℕ → Type 0
 IsOther disk = (register_size < length disk)
-    ⊎ ((length disk ≡ register_size) × (take 32 disk ≡ header → ⊥) × (take 4 disk ≡ 0 ∷ 0 ∷ 0 ∷ 0 ∷ [] → ⊥))
+    ⊎ ((length disk ≡ register_size) × (take 32 disk ≡ header → ⊥) × (IsUnmarked disk → ⊥))

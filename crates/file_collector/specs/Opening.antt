@@ -1,25 +1,15 @@
 -- What a collector finds when it opens.
 use Rattle.std.specs.Prelude.{◌≡◌, ℕ, ◌≤◌, List, [], length, Option, None, Some}
-use Rattle.pump_frame.specs.Counts.{Rose}
 use Rattle.disk_model.specs.Disk.{Meaning}
 use Rattle.file_messages.specs.Files.{State, Inside}
+use Rattle.file_messages.specs.Messages.{start_message}
 use Rattle.file_messages.specs.Assemblies.{StandsFor}
 use Rattle.file_messages.specs.declared.assembly.Assembly.{Assembly}
 use Rattle.folders.specs.Placing.{Placing, Part, Missing, Lying, Given}
 use Rattle.file_collector.specs.Gathering.{IsWellBegun, IsGathering}
 use Rattle.file_collector.specs.Collecting.{HasRegister}
-use Rattle.file_collector.specs.Registers.{IsKept}
+use Rattle.file_collector.specs.Registers.{IsKept, HasStart}
 use Rattle.file_collector.specs.declared.opening.Found.{Found}
-use Rattle.file_collector.specs.declared.values.CollectFault.{CollectFault}
-use Rattle.file_collector.specs.declared.values.CollectFault.TheVariants.{Folder, Register, Other, Damaged}
-
--- never a call of the folder; of a failed call of the register's disk, the count of its faults. Of the
--- other two faults it says nothing
-abbrev pub IsFaultOf : {D : Type 0} → Meaning D → D → D → CollectFault → Type 0
-IsFaultOf m old new (Folder faults) = ⊥
-IsFaultOf m old new (Register faults) = (faults ≡ m.count new) × Rose (m.count old) (m.count new)
-IsFaultOf m old new Other = Unit {0}
-IsFaultOf m old new Damaged = Unit {0}
 
 -- a file has begun, and has no bytes yet
 pub record IsBegun (assembly : Assembly) : Type 0 where
@@ -27,6 +17,22 @@ pub record IsBegun (assembly : Assembly) : Type 0 where
   pub size : ℕ
   pub stands : StandsFor assembly (Inside name size [])
   pub lawful : IsWellBegun (Inside name size [])
+
+-- .. by this message
+pub record IsBegunWith (assembly : Assembly) (message : List ℕ) : Type 0 where
+  pub name : List ℕ
+  pub size : ℕ
+  pub stands : StandsFor assembly (Inside name size [])
+  pub lawful : IsWellBegun (Inside name size [])
+  pub spelled : message ≡ start_message name size
+
+-- .. by the start that stands behind the register
+pub record IsBegunBy (assembly : Assembly) (disk : List ℕ) : Type 0 where
+  pub name : List ℕ
+  pub size : ℕ
+  pub stands : StandsFor assembly (Inside name size [])
+  pub lawful : IsWellBegun (Inside name size [])
+  pub start : HasStart (Inside name size []) disk
 
 -- the bytes of the part are added to a file without bytes, where it is to have as many
 pub record HasFed {D : Type 0} (m : Meaning D) (part : D) (count : ℕ) (old new : Assembly) : Type 0 where
@@ -48,9 +54,13 @@ pub record IsFound {I D : Type 0} (mi : Placing I) (md : Meaning D) (inbox : I) 
   pub gathering : IsGathering mi md (record { inbox = inbox; part = found.part; assembly = found.assembly }) state
   pub register : HasRegister md found.register
 
--- .. and the register stands for them; no file is lost
-pub record IsFoundAt {I D : Type 0} (mi : Placing I) (md : Meaning D) (inbox : I) (found : Found D) (count : ℕ)
-    (state : State) : Type 0 where
+-- .. and the register stands for them; this file is lost, or none
+pub record IsFoundWith {I D : Type 0} (mi : Placing I) (md : Meaning D) (inbox : I) (found : Found D) (count : ℕ)
+    (state : State) (file : Option (List ℕ)) : Type 0 where
   pub gathering : IsGathering mi md (record { inbox = inbox; part = found.part; assembly = found.assembly }) state
   pub kept : IsKept md found.register count state
-  pub lost : found.lost ≡ None
+  pub lost : found.lost ≡ file
+
+-- .. no file is lost
+abbrev pub IsFoundAt : {I D : Type 0} → Placing I → Meaning D → I → Found D → ℕ → State → Type 0
+IsFoundAt mi md inbox found count state = IsFoundWith mi md inbox found count state None

@@ -3,11 +3,15 @@ ghost use Rattle.std.specs.Prelude.{◌≡◌, ℕ, List, ◌+◌, ◌∷◌, �
 ghost use Rattle.std.specs.Prelude.{length, take, IfOk, OnOk, OnErr, IfErr, IsErr};
 ghost use Rattle.pump_frame.specs.Counts.{Rose};
 ghost use Rattle.stable_buffer.specs.Register.{register_disk};
-ghost use Rattle.file_messages.specs.Files.{State, Between, state_after};
-ghost use Rattle.file_collector.specs.Gathering.{Places};
+ghost use Rattle.file_messages.specs.Files.{State, Between, Inside, state_after};
+ghost use Rattle.file_collector.specs.Gathering.{Places, IsWellBegun};
 ghost use Rattle.file_collector.specs.Collecting.{taken_count, HasTaken, HasPlaced, AlwaysFits, IsCollecting};
 ghost use Rattle.file_collector.specs.Collecting.{IsCounting};
-ghost use Rattle.file_collector.specs.Reopening.{OpensOn};
+ghost use Rattle.file_collector.specs.Registers.{RegisterStands};
+ghost use Rattle.file_collector.specs.Reopening.{OpensOn, IsNew, TakesUp, inbox_of};
+ghost use Rattle.folders.specs.Placing.{Turns};
+ghost use Rattle.file_collector.specs.Closed.{IsWhyClosed, CallFailed, RegisterReads, IsOwn};
+ghost use Rattle.file_collector.specs.Making.{IsUnmade};
 
 use crate::gathering::Gatherer;
 use crate::opening::find;
@@ -37,8 +41,8 @@ where
     /// Opens a folder that was left at any moment, also by a crash. It makes the register where there is
     /// none yet, and takes up the file that had begun. A file that is shown already, though its last
     /// message was not counted, is counted. Where a fault comes, the folder comes back: `Folder` and
-    /// `Register` where a call failed, `Other` where the register's disk is another one, `Damaged` where
-    /// it holds what no collector wrote.
+    /// `Register` where a call failed, `Other` where the register's disk is another's, `Damaged` where it
+    /// is a collector's, but stands for no count and no file to which messages lead.
     pub fn open(mut inbox: I) -> Result<Collector<I>, (I, CollectFault)>
         ensures ready { IfOk result (λ c. IsCollecting I.told I.Disk.told c) }
 
@@ -47,7 +51,29 @@ where
             → (on : OpensOn I.told inbox messages)
             → HasTaken I.told I.Disk.told c (take (taken_count c) messages)
             × (on.fits.count ≤ taken_count c) × (c.lost ≡ None)) }
-        ensures shown { IfErr result (λ refused. I.told.shown refused.0 ≡ I.told.shown inbox) }
+
+        // A file that had begun goes on where its part has the bytes that were counted. Else it was shown
+        // already where all had come, and is counted; and where not it is lost, and told by its name.
+        ensures lost { IfOk result (λ c. I.told.tells → I.Disk.told.tells → (count : ℕ) (name : List ℕ)
+            (size : ℕ) (held : List ℕ) → RegisterReads I.told inbox (RegisterStands count (Inside name size held))
+            → IsWellBegun (Inside name size held)
+            → TakesUp I.told I.Disk.told c count name size held (I.told.part inbox)) }
+
+        // A register that is none yet is made; another's or a damaged one is not opened.
+        ensures new { IfOk result (λ c. I.told.tells → I.Disk.told.tells
+            → RegisterReads I.told inbox IsUnmade → IsNew I.told I.Disk.told c) }
+        ensures own { OnOk result (I.told.tells → I.Disk.told.tells → RegisterReads I.told inbox IsOwn) }
+
+        // What is shown is as before, and a crash at any moment leaves the names as one before it would.
+        ensures shown { I.told.shown (inbox_of result) ≡ I.told.shown inbox }
+        ensures turns { Turns I.told (λ names. ⊥) inbox (inbox_of result) }
+
+        // It fails only for the cause that it tells; and what fits messages is opened unless a call fails.
+        ensures cause { IfErr result (λ refused. IsWhyClosed I.told I.Disk.told inbox refused.0 refused.1) }
+        ensures called { IfErr result (λ refused. I.told.tells → I.Disk.told.tells → (messages : List (List ℕ))
+            → (on : OpensOn I.told inbox messages) → on.fits.count < 2 ^ 48
+            → CallFailed I.told I.Disk.told inbox refused.0 refused.1) }
+        ensures counts { I.told.count inbox ≤ I.told.count (inbox_of result) }
     {
         match find(&mut inbox) {
             Ok(found) => Ok(Collector {

@@ -148,16 +148,16 @@ where
     }
 
     // Lets the file go that has begun. Its part is left lying, and held until the message is counted.
-    fn drop_file(&self, progress: &Progress, cause: Cause) -> Result<Placed, PlaceFault>
+    fn drop_file(&self, progress: &Progress, cause: Cause) -> Placed
         ensures places { (state : State) (message : List ℕ) (number : ℕ) → HasCome I.told I.Disk.told self.now state
             → progress_of state ≡ Some progress.now
             → answer state (message_of message) ≡ Dropped cause
-            → Places I.told I.Disk.told number message state self.now self.now result }
+            → Places I.told I.Disk.told number message state self.now self.now (Ok result) }
     {
-        Ok(Placed::Dropped(Lost {
+        Placed::Dropped(Lost {
             cause,
             name: progress.name,
-        }))
+        })
     }
 
     /// Places the message of a number: the folder and the part are made to stand for the messages up to
@@ -178,7 +178,7 @@ where
             (_, None) => unreachable!("no file has begun"),
             (Step::Grown, Some(progress)) => self.add(progress, behind_kind(bytes)),
             (Step::Whole, Some(progress)) => { self.publish(progress, number, behind_kind(bytes)) }
-            (Step::Dropped(cause), Some(progress)) => self.drop_file(progress, cause),
+            (Step::Dropped(cause), Some(progress)) => Ok(self.drop_file(progress, cause)),
         }
     }
 }

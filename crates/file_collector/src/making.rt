@@ -1,13 +1,13 @@
 // The disk of a collector's register: whether it is made, and making it.
-ghost use Rattle.std.specs.Prelude.{◌≡◌, ◌≤◌, ◌↔◌, ◌∷◌, [], Some, None, true, false, length, take, drop, Err, OnOk};
+ghost use Rattle.std.specs.Prelude.{◌≡◌, ◌≤◌, ◌↔◌, ◌∷◌, [], Some, None, true, false, length, take, drop, OnOk};
 ghost use Rattle.std.specs.Prelude.{IfOk, IfErr, IsErr, IsTrue};
 ghost use Rattle.pump_frame.specs.Counts.{Rose};
 ghost use Rattle.disk_model.specs.Disk.{Moves, Same, Settled};
 ghost use Rattle.file_messages.specs.Files.{Between};
 ghost use Rattle.file_collector.specs.Registers.{RegisterStands, header, register_size};
-ghost use Rattle.file_collector.specs.Making.{new_register, IsRegister, IsOther};
-ghost use Rattle.file_collector.specs.declared.values.CollectFault.TheVariants.{Other, Register};
-ghost use Rattle.file_collector.specs.Opening.{IsFaultOf};
+ghost use Rattle.file_collector.specs.Making.{new_register, IsRegister, IsUnmade, IsUnmarked, IsMadeOf};
+ghost use Rattle.file_collector.specs.declared.values.CollectFault.TheVariants.{Register};
+ghost use Rattle.file_collector.specs.Closed.{IsMakeFault};
 
 use crate::values::CollectFault;
 use disk_model::{Disk, DiskFault};
@@ -51,6 +51,42 @@ fn synced_size<D: Disk>(disk: &mut D) -> Result<u64, DiskFault>
     disk.size()
 }
 
+// Whether the disk begins with four zeros.
+fn is_cleared<D: Disk>(disk: &mut D) -> Result<bool, DiskFault>
+    ensures cleared { IfOk result (λ cleared. IsTrue cleared → D.told.tells
+        → take 4 (D.told.reading disk.new) ≡ 0 ∷ 0 ∷ 0 ∷ 0 ∷ []) }
+    ensures within { IfOk result (λ cleared. IsTrue cleared → D.told.tells
+        → 4 ≤ length (D.told.reading disk.new)) }
+    ensures moves { Moves D.told Same disk.old disk.new }
+    ensures later { D.told.count disk.old ≤ D.told.count disk.new }
+    ensures rose { IsErr result → Rose (D.told.count disk.old) (D.told.count disk.new) }
+{
+    if disk.size()? < 4 {
+        return Ok(false);
+    }
+    let mut mark = [0; 4];
+    disk.read(0, &mut mark)?;
+    Ok(mark == [0; 4])
+}
+
+// Clears the mark. A mark that is clear is not written again: a crash could then leave another one, before
+// bytes that no longer tell whose disk it is.
+fn clear<D: Disk>(disk: &mut D) -> Result<(), DiskFault>
+    requires { D.told.tells → length (D.told.reading disk.old) ≤ register_size }
+    ensures cleared { OnOk result (D.told.tells
+        → take 4 (D.told.reading disk.new) ≡ 0 ∷ 0 ∷ 0 ∷ 0 ∷ []) }
+    ensures within { OnOk result (D.told.tells → 4 ≤ length (D.told.reading disk.new)) }
+    ensures few { OnOk result (D.told.tells → length (D.told.reading disk.new) ≤ register_size) }
+    ensures later { D.told.count disk.old ≤ D.told.count disk.new }
+    ensures rose { IsErr result → Rose (D.told.count disk.old) (D.told.count disk.new) }
+{
+    if is_cleared(disk)? {
+        return Ok(());
+    }
+    disk.write_at(0, &[0; 4])?;
+    disk.sync()
+}
+
 // Makes the disk of a new register. Its mark comes last.
 fn write_new<D: Disk>(disk: &mut D) -> Result<(), DiskFault>
     requires { D.told.tells → length (D.told.reading disk.old) ≤ register_size }
@@ -60,34 +96,36 @@ fn write_new<D: Disk>(disk: &mut D) -> Result<(), DiskFault>
     ensures rose { IsErr result → Rose (D.told.count disk.old) (D.told.count disk.new) }
 {
     let behind = behind_mark();
-    disk.write_at(0, &[0; 4])?;
-    disk.sync()?;
+    clear(disk)?;
     disk.write_at(4, &behind)?;
     disk.sync()?;
     disk.write_at(0, b"NPD1")?;
     disk.sync()
 }
 
-// The first bytes of a disk.
-fn read_prefix<D: Disk>(disk: &mut D) -> Result<[u8; 32], DiskFault>
-    ensures prefix { IfOk result (λ prefix. D.told.tells → prefix ≡ take 32 (D.told.reading disk.old)) }
+// The bytes of a disk.
+fn read_whole<D: Disk>(disk: &mut D) -> Result<[u8; 220], DiskFault>
+    ensures whole { IfOk result (λ bytes. D.told.tells → length (D.told.reading disk.old) ≡ register_size
+        → bytes ≡ D.told.reading disk.old) }
     ensures moves { Moves D.told Same disk.old disk.new }
     ensures later { D.told.count disk.old ≤ D.told.count disk.new }
     ensures rose { IsErr result → Rose (D.told.count disk.old) (D.told.count disk.new) }
 {
-    let mut prefix = [0; 32];
-    disk.read(0, &mut prefix)?;
-    Ok(prefix)
+    let mut bytes = [0; 220];
+    disk.read(0, &mut bytes)?;
+    Ok(bytes)
 }
 
-// Whether these are the first bytes of a register's disk, or of one that was not made to its end.
-fn told_by(prefix: &[u8; 32]) -> Option<bool>
-    ensures made { result ≡ Some true ↔ (prefix.now ≡ header) }
-    ensures none { result ≡ None → take 4 prefix.now ≡ 0 ∷ 0 ∷ 0 ∷ 0 ∷ [] → ⊥ }
+// Whether these are the bytes of a register's disk, or of one that was not made to its end.
+fn told_by(bytes: &[u8; 220]) -> Option<bool>
+    ensures made { result ≡ Some true ↔ (take 32 bytes.now ≡ header) }
+    ensures unmade { result ≡ Some false → IsUnmarked bytes.now }
+    ensures none { result ≡ None → IsUnmarked bytes.now → ⊥ }
 {
-    if *prefix == header() {
+    let behind = behind_mark();
+    if bytes[..32] == header()[..] {
         Some(true)
-    } else if prefix[..4] == [0; 4] {
+    } else if bytes[..4] == [0; 4] || bytes[4..] == behind[..] {
         Some(false)
     } else {
         None
@@ -99,11 +137,12 @@ fn is_made<D: Disk>(disk: &mut D) -> Result<bool, CollectFault>
     ensures made { IfOk result (λ made. IsTrue made → D.told.tells → IsRegister (D.told.reading disk.old)) }
     ensures whole { IfOk result (λ made. D.told.tells → IsRegister (D.told.reading disk.old)
         → made ≡ true) }
+    ensures unmade { IfOk result (λ made. made ≡ false → D.told.tells
+        → IsUnmade (D.told.reading disk.old)) }
     ensures few { IfOk result (λ made. made ≡ false → D.told.tells
         → length (D.told.reading disk.new) ≤ register_size) }
     ensures moves { Moves D.told Same disk.old disk.new }
-    ensures cause { IfErr result (λ fault. IsFaultOf D.told disk.old disk.new fault) }
-    ensures other { result ≡ Err Other → D.told.tells → IsOther (D.told.reading disk.old) }
+    ensures cause { IfErr result (λ fault. IsMakeFault D.told disk.old disk.new fault) }
     ensures later { D.told.count disk.old ≤ D.told.count disk.new }
 {
     let size = match synced_size(disk) {
@@ -116,8 +155,11 @@ fn is_made<D: Disk>(disk: &mut D) -> Result<bool, CollectFault>
     if size > SIZE {
         return Err(CollectFault::Other);
     }
-    match read_prefix(disk) {
-        Ok(prefix) => told_by(&prefix).ok_or(CollectFault::Other),
+    match read_whole(disk) {
+        Ok(bytes) => match told_by(&bytes) {
+            Some(made) => Ok(made),
+            None => Err(CollectFault::Other),
+        },
         Err(DiskFault) => Err(device(disk)),
     }
 }
@@ -129,8 +171,9 @@ pub fn make<D: Disk>(disk: &mut D) -> Result<(), CollectFault>
         → D.told.reading disk.new ≡ D.told.reading disk.old) }
     ensures new { OnOk result (D.told.tells → (IsRegister (D.told.reading disk.old) → ⊥)
         → D.told.reading disk.new ≡ new_register) }
-    ensures cause { IfErr result (λ fault. IsFaultOf D.told disk.old disk.new fault) }
-    ensures other { result ≡ Err Other → D.told.tells → IsOther (D.told.reading disk.old) }
+    ensures made_of { OnOk result (D.told.tells
+        → IsMadeOf (D.told.reading disk.old) (D.told.reading disk.new)) }
+    ensures cause { IfErr result (λ fault. IsMakeFault D.told disk.old disk.new fault) }
     ensures later { D.told.count disk.old ≤ D.told.count disk.new }
 {
     if is_made(disk)? {

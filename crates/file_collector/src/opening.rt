@@ -1,18 +1,25 @@
 // What a collector finds on its disk and in its folder when it opens.
 ghost use Rattle.std.specs.Prelude.{◌≡◌, ℕ, List, [], None, Some, option_map, IfSome, ◌+◌, ◌^◌, ◌<◌, ◌≤◌, length, take};
-ghost use Rattle.std.specs.Prelude.{drop, IfOk, OnOk, IfErr};
+ghost use Rattle.std.specs.Prelude.{drop, IfOk, OnOk, IfErr, IsErr, IsSome, ◌↔◌};
+ghost use Rattle.byteorder.specs.Endian.{big_bytes};
 ghost use Rattle.stable_buffer.specs.Numbers.{length_at};
 ghost use Rattle.pump_frame.specs.Counts.{Rose};
 ghost use Rattle.disk_model.specs.Disk.{Moves, Same, Settled};
 ghost use Rattle.stable_buffer.specs.Register.{IsReady, register_disk, register_value};
-ghost use Rattle.file_messages.specs.Files.{State, Between, Inside};
-ghost use Rattle.file_messages.specs.Assemblies.{StandsFor};
+ghost use Rattle.file_messages.specs.Files.{State, Between, Inside, after};
+ghost use Rattle.file_messages.specs.Assemblies.{StandsFor, answer};
+ghost use Rattle.file_messages.specs.Messages.{message_of};
+ghost use Rattle.file_messages.specs.declared.assembly.Step.TheVariants.{Started};
 ghost use Rattle.file_collector.specs.Registers.{HasStart, RegisterStands, IsKept};
 ghost use Rattle.file_collector.specs.Collecting.{HasRegister};
-ghost use Rattle.file_collector.specs.Making.{IsRegister};
-ghost use Rattle.folders.specs.Placing.{Missing, Given, Stays, IsDurable, Turns, first_of};
+ghost use Rattle.file_collector.specs.Making.{IsRegister, IsUnmade};
+ghost use Rattle.folders.specs.Placing.{Given, Stays, IsDurable, Turns, first_of};
 ghost use Rattle.file_collector.specs.Gathering.{IsWellBegun, PartStands};
-ghost use Rattle.file_collector.specs.Opening.{IsFaultOf, HasFed, IsBegun, IsFound, IsFoundAt, lying_part};
+ghost use Rattle.file_collector.specs.Closed.{IsCallFault, IsStartFault, IsRegisterFault, IsTurnFault, IsResumeFault};
+ghost use Rattle.file_collector.specs.Closed.{IsFindFault, IsWhyClosed, IsOpenedOn};
+ghost use Rattle.file_collector.specs.Closed.{IsTaken, RegisterReads, IsSound, IsOwn};
+ghost use Rattle.file_collector.specs.Opening.{HasFed, IsBegun, IsBegunWith, IsBegunBy, IsFound, IsFoundAt, lying_part};
+ghost use Rattle.file_collector.specs.Opening.{IsFoundWith};
 ghost use Rattle.file_collector.specs.declared.values.CollectFault.TheVariants.{Register as OfRegister};
 
 use crate::making::make;
@@ -44,11 +51,13 @@ fn start_length<D: Disk>(register: &mut Register<D>) -> Result<usize, CollectFau
     ensures value { register_value register.new ≡ register_value register.old }
     ensures length { IfOk result (λ l. D.told.tells
         → l ≡ length_at (D.told.reading (register_disk register.old)) 80) }
+    ensures spells { IfOk result (λ l. D.told.tells
+        → big_bytes 2 l ≡ take 2 (drop 80 (D.told.reading (register_disk register.old)))) }
     ensures short { IfOk result (λ l. l ≤ 138) }
     ensures moves { Moves D.told Same (register_disk register.old) (register_disk register.new) }
     ensures later { D.told.count (register_disk register.old)
         ≤ D.told.count (register_disk register.new) }
-    ensures cause { IfErr result (λ fault. IsFaultOf D.told (register_disk register.old)
+    ensures cause { IfErr result (λ fault. IsStartFault D.told (register_disk register.old)
         (register_disk register.new) fault) }
 {
     match register.read_length(80) {
@@ -69,13 +78,22 @@ fn read_bytes<D: Disk>(register: &mut Register<D>, start: &mut [u8]) -> Result<(
     ensures moves { Moves D.told Same (register_disk register.old) (register_disk register.new) }
     ensures later { D.told.count (register_disk register.old)
         ≤ D.told.count (register_disk register.new) }
-    ensures cause { IfErr result (λ fault. IsFaultOf D.told (register_disk register.old)
+    ensures cause { IfErr result (λ fault. IsCallFault D.told (register_disk register.old)
         (register_disk register.new) fault) }
 {
     match register.read_beside(82, start) {
         Ok(()) => Ok(()),
         Err(device) => Err(fault_of(device)),
     }
+}
+
+// The file that begins with this message.
+fn begin_with(start: &[u8]) -> Option<Assembly>
+    ensures some { IsSome result ↔ (answer Between (message_of start.now) ≡ Started) }
+    ensures value { IfSome result (λ assembly. StandsFor assembly (after Between (message_of start.now))) }
+    ensures begun { IfSome result (λ assembly. IsBegunWith assembly start.now) }
+{
+    Assembly::resume(start)
 }
 
 // The file that begins with so many bytes behind the register.
@@ -87,6 +105,9 @@ fn begin_from<D: Disk>(
     ensures ready { OnOk result (IsReady D.told register.new) }
     ensures value { register_value register.new ≡ register_value register.old }
     ensures begun { IfOk result (λ assembly. IsBegun assembly) }
+    ensures by { IfOk result (λ assembly. D.told.tells → big_bytes 2 (length start.old)
+        ≡ take 2 (drop 80 (D.told.reading (register_disk register.old)))
+        → IsBegunBy assembly (D.told.reading (register_disk register.old))) }
     ensures found { IfOk result (λ assembly. D.told.tells → (name : List ℕ) (size : ℕ) (bytes : List ℕ)
         → IsWellBegun (Inside name size bytes)
         → HasStart (Inside name size bytes) (D.told.reading (register_disk register.old))
@@ -95,11 +116,12 @@ fn begin_from<D: Disk>(
     ensures moves { Moves D.told Same (register_disk register.old) (register_disk register.new) }
     ensures later { D.told.count (register_disk register.old)
         ≤ D.told.count (register_disk register.new) }
-    ensures cause { IfErr result (λ fault. IsFaultOf D.told (register_disk register.old)
-        (register_disk register.new) fault) }
+    ensures cause { IfErr result (λ fault. (D.told.tells
+        → length start.old ≡ length_at (D.told.reading (register_disk register.old)) 80)
+        → IsStartFault D.told (register_disk register.old) (register_disk register.new) fault) }
 {
     read_bytes(register, start)?;
-    match Assembly::resume(start) {
+    match begin_with(start) {
         Some(assembly) => Ok(assembly),
         None => Err(CollectFault::Damaged),
     }
@@ -111,6 +133,8 @@ pub fn read_start<D: Disk>(register: &mut Register<D>) -> Result<Assembly, Colle
     ensures ready { OnOk result (IsReady D.told register.new) }
     ensures value { register_value register.new ≡ register_value register.old }
     ensures begun { IfOk result (λ assembly. IsBegun assembly) }
+    ensures by { IfOk result (λ assembly. D.told.tells
+        → IsBegunBy assembly (D.told.reading (register_disk register.old))) }
     ensures found { IfOk result (λ assembly. D.told.tells → (name : List ℕ) (size : ℕ) (bytes : List ℕ)
         → IsWellBegun (Inside name size bytes)
         → HasStart (Inside name size bytes) (D.told.reading (register_disk register.old))
@@ -118,7 +142,7 @@ pub fn read_start<D: Disk>(register: &mut Register<D>) -> Result<Assembly, Colle
     ensures moves { Moves D.told Same (register_disk register.old) (register_disk register.new) }
     ensures later { D.told.count (register_disk register.old)
         ≤ D.told.count (register_disk register.new) }
-    ensures cause { IfErr result (λ fault. IsFaultOf D.told (register_disk register.old)
+    ensures cause { IfErr result (λ fault. IsStartFault D.told (register_disk register.old)
         (register_disk register.new) fault) }
 {
     let length = start_length(register)?;
@@ -132,6 +156,7 @@ pub fn feed<D: Disk>(part: &mut D, assembly: &mut Assembly, count: u64) -> Resul
     ensures fed { OnOk result (HasFed D.told part.old count assembly.old assembly.new) }
     ensures moves { Moves D.told Same part.old part.new }
     ensures later { D.told.count part.old ≤ D.told.count part.new }
+    ensures rose { IsErr result → Rose (D.told.count part.old) (D.told.count part.new) }
 {
     let mut block = [0; 1024];
     let mut at = 0;
@@ -152,6 +177,8 @@ fn open_register<D: Disk + Drop>(mut disk: D) -> Result<Register<D>, CollectFaul
         → IsKept D.told register count state) }
     ensures new { IfOk result (λ register. (D.told.tells → IsRegister (D.told.reading disk) → ⊥)
         → D.told.tells → IsKept D.told register 0 Between) }
+    ensures opened { IfOk result (λ register. IsOpenedOn D.told disk register) }
+    ensures cause { IfErr result (λ fault. IsRegisterFault D.told disk fault) }
 {
     make(&mut disk)?;
     match Register::open(disk) {
@@ -176,8 +203,13 @@ where
     ensures found { IfOk result (λ register. I.told.tells → I.Disk.told.tells
         → (count : ℕ) (state : State) (bytes : List ℕ) → I.told.register inbox.old ≡ Some bytes
         → RegisterStands count state bytes → IsKept I.Disk.told register count state) }
+    ensures new { IfOk result (λ register. I.told.tells → I.Disk.told.tells
+        → RegisterReads I.told inbox.old IsUnmade → IsKept I.Disk.told register 0 Between) }
+    ensures taken { IfOk result (λ register. IsTaken I.told I.Disk.told inbox.old register) }
     ensures stays { Stays I.told inbox.old inbox.new }
     ensures durable { OnOk result (IsDurable I.told inbox.new) }
+    ensures later { I.told.count inbox.old ≤ I.told.count inbox.new }
+    ensures cause { IfErr result (λ fault. IsWhyClosed I.told I.Disk.told inbox.old inbox.new fault) }
 {
     match inbox.register() {
         Ok(disk) => open_register(disk),
@@ -205,6 +237,9 @@ where
     ensures left { result ≡ Ok None → I.told.tells → I.told.part inbox.new ≡ I.told.part inbox.old }
     ensures shown { I.told.shown inbox.new ≡ I.told.shown inbox.old }
     ensures durable { OnOk result (IsDurable I.told inbox.old → IsDurable I.told inbox.new) }
+    ensures turns { Turns I.told (λ names. ⊥) inbox.old inbox.new }
+    ensures later { I.told.count inbox.old ≤ I.told.count inbox.new }
+    ensures cause { IfErr result (λ fault. IsResumeFault I.told I.Disk.told inbox.old inbox.new fault) }
 {
     match inbox.resume(count) {
         Ok(Some(mut part)) => match feed(&mut part, assembly, count) {
@@ -237,6 +272,8 @@ fn count_shown<D: Disk>(register: &mut Register<D>) -> Result<(), CollectFault>
     ensures register { OnOk result (HasRegister D.told register.new) }
     ensures counted { OnOk result ((count : ℕ) (state : State) → IsKept D.told register.old count state
         → IsKept D.told register.new (count + 1) Between) }
+    ensures cause { IfErr result (λ fault. IsCallFault D.told (register_disk register.old)
+        (register_disk register.new) fault) }
 {
     match turn(register, &None) {
         Ok(()) => Ok(()),
@@ -249,6 +286,10 @@ fn leave_lost<D: Disk>(register: &mut Register<D>) -> Result<(), CollectFault>
     requires register { HasRegister D.told register.old }
     ensures register { OnOk result (HasRegister D.told register.new) }
     ensures left { OnOk result (register_value register.new ≡ ((register_value register.old).0, 0)) }
+    ensures kept { OnOk result ((count : ℕ) (state : State) → IsKept D.told register.old count state
+        → IsKept D.told register.new count Between) }
+    ensures cause { IfErr result (λ fault. IsCallFault D.told (register_disk register.old)
+        (register_disk register.new) fault) }
 {
     let count = register.value().0;
     match register.stage(count, 0) {
@@ -295,6 +336,9 @@ fn without_part<D: Disk + Drop>(
         × (found.lost ≡ None)) }
     ensures lost { IfOk result (λ found. (count ≡ progress.now.size → ⊥)
         → found.lost ≡ Some progress.now.name) }
+    ensures left { IfOk result (λ found. (count ≡ progress.now.size → ⊥) → (n : ℕ) (state : State)
+        → IsKept D.told register n state → IsKept D.told found.register n Between) }
+    ensures cause { IfErr result (λ fault. IsTurnFault D.told (register_disk register) fault) }
 {
     if count == progress.size {
         count_shown(&mut register)?;
@@ -323,14 +367,25 @@ where
         → IsFoundAt I.told I.Disk.told inbox.new found count (Inside name size bytes)) }
     ensures ahead { IfOk result (λ found. I.told.tells → I.Disk.told.tells → (count : ℕ) (name : List ℕ)
         (size : ℕ) (bytes : List ℕ) → IsKept I.Disk.told register count (Inside name size bytes)
-        → IsWellBegun (Inside name size bytes) → length bytes ≡ size → I.told.part inbox.old ≡ Missing
-        → IsFoundAt I.told I.Disk.told inbox.new found (count + 1) Between) }
+        → IsWellBegun (Inside name size bytes) → first_of (length bytes) (I.told.part inbox.old) ≡ None
+        → length bytes ≡ size → IsFoundAt I.told I.Disk.told inbox.new found (count + 1) Between) }
+    ensures lost { IfOk result (λ found. I.told.tells → I.Disk.told.tells → (count : ℕ) (name : List ℕ)
+        (size : ℕ) (bytes : List ℕ) → IsKept I.Disk.told register count (Inside name size bytes)
+        → IsWellBegun (Inside name size bytes) → first_of (length bytes) (I.told.part inbox.old) ≡ None
+        → (length bytes ≡ size → ⊥)
+        → IsFoundWith I.told I.Disk.told inbox.new found count Between (Some name)) }
+    ensures sound { OnOk result (I.Disk.told.tells
+        → IsRegister (I.Disk.told.reading (register_disk register))
+        → IsSound (I.Disk.told.reading (register_disk register))) }
     ensures shown { I.told.shown inbox.new ≡ I.told.shown inbox.old }
+    ensures turns { Turns I.told (λ names. ⊥) inbox.old inbox.new }
+    ensures later { I.told.count inbox.old ≤ I.told.count inbox.new }
+    ensures cause { IfErr result (λ fault. IsFindFault I.told I.Disk.told inbox.old inbox.new register fault) }
 {
     let mut assembly = read_start(&mut register)?;
     let (count, held) = register.value();
     let Some(progress) = assembly.progress() else {
-        return Err(CollectFault::Damaged);
+        unreachable!("a file has begun");
     };
     if count >= LIMIT || held - 1 > progress.size {
         return Err(CollectFault::Damaged);
@@ -358,9 +413,22 @@ where
     ensures ahead { IfOk result (λ found. I.told.tells → I.Disk.told.tells → (count : ℕ) (name : List ℕ)
         (size : ℕ) (held bytes : List ℕ) → I.told.register inbox.old ≡ Some bytes
         → RegisterStands count (Inside name size held) bytes → IsWellBegun (Inside name size held)
-        → length held ≡ size → I.told.part inbox.old ≡ Missing
+        → first_of (length held) (I.told.part inbox.old) ≡ None → length held ≡ size
         → IsFoundAt I.told I.Disk.told inbox.new found (count + 1) Between) }
+    ensures lost { IfOk result (λ found. I.told.tells → I.Disk.told.tells → (count : ℕ) (name : List ℕ)
+        (size : ℕ) (held bytes : List ℕ) → I.told.register inbox.old ≡ Some bytes
+        → RegisterStands count (Inside name size held) bytes → IsWellBegun (Inside name size held)
+        → first_of (length held) (I.told.part inbox.old) ≡ None → (length held ≡ size → ⊥)
+        → IsFoundWith I.told I.Disk.told inbox.new found count Between (Some name)) }
+    ensures new { IfOk result (λ found. I.told.tells → I.Disk.told.tells
+        → RegisterReads I.told inbox.old IsUnmade
+        → IsFoundAt I.told I.Disk.told inbox.new found 0 Between) }
+    ensures own { OnOk result (I.told.tells → I.Disk.told.tells
+        → RegisterReads I.told inbox.old IsOwn) }
     ensures shown { I.told.shown inbox.new ≡ I.told.shown inbox.old }
+    ensures turns { Turns I.told (λ names. ⊥) inbox.old inbox.new }
+    ensures later { I.told.count inbox.old ≤ I.told.count inbox.new }
+    ensures cause { IfErr result (λ fault. IsWhyClosed I.told I.Disk.told inbox.old inbox.new fault) }
 {
     let register = take_register(inbox)?;
     if register.value().1 == 0 {

@@ -11,9 +11,9 @@ either A (Err e) a = tt
 pub returns-clause-made : goal.returns-clause-made
 returns-clause-made g c =
     let m = g.D.Disk.told in
-    either (m.tells → m.reading c.sync-3.new.self ≡ new_register) c.sync-3.result (λ told.
-    c.sync-3.ensures.moves.reads told
-    ∙ is_made (m.reading c.args.disk.now) (m.reading c.sync.new.self) (m.reading c.sync-2.new.self) (m.reading c.write_at-3.new.self) (c.requires told)
-    (c.sync.ensures.moves.reads told ∙ c.in_ok-write_at.ensures.written told)
-    (c.sync-2.ensures.moves.reads told ∙ subst (λ (l : List ℕ). IsWritten (m.reading c.sync.new.self) 4 l (m.reading c.write_at-2.new.self)) c.behind_mark-behind.ensures (c.in_ok-write_at-2.ensures.written told))
-    (c.in_ok-write_at-3.ensures.written told))
+    let e = c.in_ok-clear.ensures in
+    either (m.tells → m.reading c.sync-2.new.self ≡ new_register) c.sync-2.result (λ told.
+    c.sync-2.ensures.moves.reads told
+    ∙ is_made (m.reading c.clear.new.disk) (m.reading c.sync.new.self) (m.reading c.write_at-2.new.self) (e.few told) (e.cleared told)
+    (c.sync.ensures.moves.reads told ∙ subst (λ (l : List ℕ). IsWritten (m.reading c.clear.new.disk) 4 l (m.reading c.write_at.new.self)) c.behind_mark-behind.ensures (c.in_ok-write_at.ensures.written told))
+    (c.in_ok-write_at-2.ensures.written told))

@@ -1,9 +1,10 @@
-use Rattle.std.proofs.Common.{◌≡◌, List, ℕ, sym, ◌∙◌, ap, subst}
-use Rattle.stable_buffer.specs.Register.{value_of}
+use Rattle.std.proofs.Common.{◌≡◌, ◌<◌, ◌^◌, inr, arith, List, ℕ, sym, ◌∙◌, ap, subst}
+use Rattle.stable_buffer.specs.Register.{register_disk, register_value, value_of}
 use Rattle.file_messages.specs.Files.{Between}
 use Rattle.file_collector.specs.Registers.{RegisterStands}
 use Rattle.file_collector.specs.Making.{new_register}
 use Rattle.file_collector.proofs.Made.{new_stands}
+use Rattle.file_collector.proofs.Causes.{above_limit, value_read, opened_on, damaged_by}
 use Rattle.file_collector.proofs.opening.open_register.Goals as goal
 
 pub returns-else-value-gt-LIMIT-clause-new : goal.returns-else-value-gt-LIMIT-clause-new
@@ -19,3 +20,14 @@ returns-else-value-gt-LIMIT-clause-new g c = λ none told.
       settled = e.settled;
       stands = λ yes. subst (λ (l : List ℕ). RegisterStands 0 Between l) (sym now) new_stands;
     }
+
+pub returns-then-value-gt-LIMIT-clause-cause : goal.returns-then-value-gt-LIMIT-clause-cause
+returns-then-value-gt-LIMIT-clause-cause g c = λ told.
+    let m = g.D.Disk.told in
+    let e = c.in-Ok.ensures in
+    let k = c.in_ok-make.ensures in
+    let r = c.in-Ok.register in
+    let read = value_read m r e.ready told in
+    let above : 2 ^ 48 < r.first = omega (arith, ap (λ (v : ℕ × ℕ). v.0) c.value.ensures, c.if-value-gt-LIMIT.true) in
+    damaged_by m c.args.disk r told (opened_on m c.args.disk c.make.new.disk r k.later e.answers.counts e.moves k.made_of) read (inr above)
+    (above_limit (m.reading (register_disk r)) (register_value r) read above)

@@ -1,5 +1,7 @@
 use Rattle.std.proofs.Common.{◌≡◌, List, ℕ, Some, Result, Ok, Err, IfOk, sym, ◌∙◌, subst}
 use Rattle.file_collector.specs.Registers.{RegisterStands}
+use Rattle.file_collector.specs.Making.{IsUnmade}
+use Rattle.file_collector.proofs.Causes.{unmade_not}
 use Rattle.file_collector.proofs.opening.take_register.Goals as goal
 
 if_ok : {T E : Type 0} (r : Result T E) (P Q : T → Type 0) → ((t : T) → P t → Q t) → IfOk r P → IfOk r Q
@@ -16,3 +18,11 @@ returns-in-Ok-clause-found g c =
     if_ok c.open_register.result _ _ (λ register found told tells count state bytes is stands.
     found count state (λ yes. subst (λ (l : List ℕ). RegisterStands count state l) (some_is bytes (md.reading c.in-Ok.disk) (sym is ∙ e.reads told)) stands) tells)
     c.open_register.ensures.found
+
+pub returns-in-Ok-clause-new : goal.returns-in-Ok-clause-new
+returns-in-Ok-clause-new g c =
+    let md = g.I.Disk.Disk.told in
+    let e = c.in-Ok.ensures in
+    if_ok c.open_register.result _ _ (λ register new told tells reads.
+    new (λ yes. unmade_not (md.reading c.in-Ok.disk) (subst IsUnmade (some_is reads.bytes (md.reading c.in-Ok.disk) (sym reads.reads ∙ e.reads told)) reads.holds)) tells)
+    c.open_register.ensures.new

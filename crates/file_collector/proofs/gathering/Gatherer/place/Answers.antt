@@ -1,4 +1,4 @@
-use Rattle.std.proofs.Common.{List, ℕ, length, drop, sym, ◌∙◌, ap}
+use Rattle.std.proofs.Common.{List, ℕ, length, drop, Ok, sym, ◌∙◌, ap}
 use Rattle.file_messages.specs.Messages.{message_of}
 use Rattle.file_messages.specs.Assemblies.{answer}
 use Rattle.file_collector.proofs.Gathers.{same_places, same_come, digest_length}
@@ -52,5 +52,5 @@ returns-in-Dropped-Some-clause-places g c = λ state at.
     let stepped = c.step.ensures state at.assembly in
     let bytes = c.as_slice-bytes.ensures.value in
     let is = ap (λ (l : List ℕ). answer state (message_of l)) (sym bytes) ∙ sym stepped.1 ∙ c.in-Dropped-Some.is-0 in
-    same_places mi md c.args.number c.args.message.now state c.args.self.now c.step.new.self (record { inbox = c.args.self.now.inbox; part = c.args.self.now.part; assembly = c.step.new.self }) c.drop_file.result
+    same_places mi md c.args.number c.args.message.now state c.args.self.now c.step.new.self (record { inbox = c.args.self.now.inbox; part = c.args.self.now.part; assembly = c.step.new.self }) (Ok c.drop_file.result)
     (c.drop_file.ensures.places state c.args.message.now c.args.number (same_come mi md c.args.self.now c.step.new.self state at.come) (sym (c.progress-before.ensures state at.assembly) ∙ c.in-Dropped-Some.is-1) is)

@@ -7,7 +7,7 @@ use Rattle.folders.specs.Outboxes.{Dropping, Standing, Marked, Moves, Makes, Set
 use Rattle.folders.specs.declared.mark.Mark.{Mark}
 use Rattle.file_dropper.specs.Leaving.{Fits, FitsMarked, IsUnderWay, Leaves, cut_length, sending}
 use Rattle.file_dropper.specs.Readings.{still}
-use Rattle.file_dropper.specs.Works.{GivesUpFor, IsMarked, IsOther, mark_of, IsLawfulSent, SendsOn, HasSent, Skips, still_of, bytes_of, StandsBehind}
+use Rattle.file_dropper.specs.Works.{GivesUpFor, IsMarked, IsOther, IsToldOf, IsToldOther, mark_of, IsLawfulSent, SendsOn, HasSent, Skips, still_of, bytes_of, StandsBehind}
 use Rattle.std.specs.Prelude.{Result, Ok, Err, OnOk}
 use Rattle.file_dropper.specs.declared.answers.DropFault.{DropFault}
 use Rattle.file_dropper.specs.declared.answers.Settled.{Settled as Settled'}
@@ -197,11 +197,11 @@ module _ {O F : Type 0} (m : Dropping O) (tells : m.tells) (left : F → Option 
     })
 
 -- a file that is given up has changed
-pub gives_up_for : (result : Result Settled' DropFault) (P : Type 0) → GivesUpFor (Unit {0}) result → OnOk result P → GivesUpFor P result
-gives_up_for (Ok Ready) P is p = tt
-gives_up_for (Ok (WasSent sent)) P is p = is
-gives_up_for (Ok (Renewed start name)) P is p = p
-gives_up_for (Err fault) P is p = tt
+pub gives_up_for : (sent : Sent) (bytes : List ℕ) (result : Result Settled' DropFault) → GivesUpFor (IsToldOf sent) result → OnOk result (IsOther sent bytes) → GivesUpFor (IsToldOther sent bytes) result
+gives_up_for sent bytes (Ok Ready) is other = tt
+gives_up_for sent bytes (Ok (WasSent s)) is other = is
+gives_up_for sent bytes (Ok (Renewed start name)) is other = (other, is)
+gives_up_for sent bytes (Err fault) is other = tt
 
 -- it ends before the messages that were accepted
 pub ends_before : {F : Type 0} (left : F → Option (List ℕ)) (message : ℕ) (sent : Sent) (number : ℕ) (first : Sender F) (bytes : List ℕ) → 138 ≤ message → first.started ≡ false

@@ -113,7 +113,7 @@ module _ {O F : Type 0} (m : Dropping O) (tells : m.tells) (left : F → Option 
   }
 
   -- a message was given, and nothing happened in the folder
-  pub gave : (old new d : Dropper O F) (given : List ℕ) (changed : Type 0) (next : Next) (number : ℕ) → new ≡ d → next ≡ answers.Message number → d.outbox ≡ old.outbox → StandsBehind m left d (accepted ++ given ∷ [])
+  pub gave : (old new d : Dropper O F) (given : List ℕ) (changed : ℕ → List ℕ → Type 0) (next : Next) (number : ℕ) → new ≡ d → next ≡ answers.Message number → d.outbox ≡ old.outbox → StandsBehind m left d (accepted ++ given ∷ [])
       → Leaves m accepted old.outbox new.outbox × StandsNext m left new accepted given changed (Ok next)
   gave old new d given changed next number is message same stands = (
     subst (λ (o : O). Leaves m accepted old.outbox o) (sym (ap (λ (x : Dropper O F). x.outbox) is ∙ same)) (leaves_none m tells accepted old.outbox),
@@ -133,16 +133,16 @@ module _ {O F : Type 0} (m : Dropping O) (tells : m.tells) (left : F → Option 
       }
 
 -- nothing is given
-pub next_err : {O F : Type 0} (m : Dropping O) (left : F → Option (List ℕ)) (new : Dropper O F) (accepted : Messages) (given : List ℕ) (changed : Type 0) (result : Result Next DropFault) → IsErr result → StandsNext m left new accepted given changed result
+pub next_err : {O F : Type 0} (m : Dropping O) (left : F → Option (List ℕ)) (new : Dropper O F) (accepted : Messages) (given : List ℕ) (changed : ℕ → List ℕ → Type 0) (result : Result Next DropFault) → IsErr result → StandsNext m left new accepted given changed result
 next_err m left new accepted given changed (Ok next) err = cc
 next_err m left new accepted given changed (Err fault) err = tt
 
 -- .. where what a given up file says is weaker
-pub next_weaker : {O F : Type 0} (m : Dropping O) (left : F → Option (List ℕ)) (new : Dropper O F) (accepted : Messages) (given : List ℕ) (P Q : Type 0) (result : Result Next DropFault) → (P → Q)
+pub next_weaker : {O F : Type 0} (m : Dropping O) (left : F → Option (List ℕ)) (new : Dropper O F) (accepted : Messages) (given : List ℕ) (P Q : ℕ → List ℕ → Type 0) (result : Result Next DropFault) → ((start : ℕ) (name : List ℕ) → P start name → Q start name)
     → StandsNext m left new accepted given P result → StandsNext m left new accepted given Q result
 next_weaker m left new accepted given P Q (Ok answers.Idle) to is = is
 next_weaker m left new accepted given P Q (Ok (answers.Message number)) to is = is
-next_weaker m left new accepted given P Q (Ok (answers.Again number start name)) to is = (is.0, to is.1)
+next_weaker m left new accepted given P Q (Ok (answers.Again number start name)) to is = (is.0, to start name is.1)
 next_weaker m left new accepted given P Q (Err fault) to is = tt
 
 pub on_weaker : {T E : Type 0} (result : Result T E) (P Q : Type 0) → OnOk result P → (P → Q) → OnOk result Q

@@ -281,14 +281,15 @@ LeavesNext m old new (Ok (Again number start name)) =
     MayAnswer m new × (new.number ≡ old.number) × (number ≡ old.number)
 LeavesNext m old new (Err fault) = Unit {0}
 
--- behind which messages the dropper stands after it gave another one; where that gives a file up, this holds too
+-- behind which messages the dropper stands after it gave another one; where that gives a file up, this holds too of
+-- the start and the name that are told
 abbrev pub StandsNext : {O F : Type 0} → Dropping O → (F → Option (List ℕ)) → Dropper O F → List (List ℕ) → List ℕ
-    → Type 0 → Result Next DropFault → Type 0
+    → (ℕ → List ℕ → Type 0) → Result Next DropFault → Type 0
 StandsNext m left new accepted given changed (Ok Idle) = StandsBehind m left new accepted
 StandsNext m left new accepted given changed (Ok (Message number)) =
     StandsBehind m left new (accepted ++ given ∷ [])
 StandsNext m left new accepted given changed (Ok (Again number start name)) =
-    StandsBehind m left new (accepted ++ given ∷ []) × changed
+    StandsBehind m left new (accepted ++ given ∷ []) × changed start name
 StandsNext m left new accepted given changed (Err fault) = Unit {0}
 
 -- a message that is given has at most so many bytes
@@ -304,38 +305,48 @@ HasRoom message given (Err fault) = Unit {0}
 abbrev pub IsOther : Sent → List ℕ → Type 0
 IsOther sent bytes = (length bytes ≡ sent.size) × (sha256 bytes ≡ sent.digest) → ⊥
 
--- the bytes of the file that is being sent are others
-abbrev pub HasOther : {F : Type 0} → Work F → List ℕ → Type 0
-HasOther Unsettled bytes = ⊥
-HasOther (GivingUp name) bytes = ⊥
-HasOther (Free name) bytes = ⊥
-HasOther (Sending sender) bytes = (sender.started ≡ true) × IsOther sender.sent bytes
-HasOther (Ended sent) bytes = ⊥
-HasOther (Failed reading) bytes = ⊥
+-- this start and this name are the file's own
+abbrev pub IsToldOf : Sent → ℕ → List ℕ → Type 0
+IsToldOf sent start name = (start ≡ sent.start) × (name ≡ sent.name)
 
--- the marked file is sent in messages of this size, and has other bytes; or it is sent in others
-abbrev pub IsOtherStage : ℕ → Stage → List ℕ → Type 0
-IsOtherStage message stages.Fresh bytes = ⊥
-IsOtherStage message (stages.Sending start most size digest) bytes =
-    most ≡ message → (length bytes ≡ size) × (sha256 bytes ≡ digest) → ⊥
-IsOtherStage message (stages.Stopped start) bytes = ⊥
+-- .. and its bytes are others
+abbrev pub IsToldOther : Sent → List ℕ → ℕ → List ℕ → Type 0
+IsToldOther sent bytes start name = IsOther sent bytes × IsToldOf sent start name
 
-abbrev pub HasChanged : ℕ → Option Marked → List ℕ → Type 0
-HasChanged message None bytes = ⊥
-HasChanged message (Some marked) bytes = IsOtherStage message marked.mark.stage bytes
+-- the bytes of the file that is being sent are others, and this start and this name are its own
+abbrev pub HasOther : {F : Type 0} → Work F → List ℕ → ℕ → List ℕ → Type 0
+HasOther Unsettled bytes start name = ⊥
+HasOther (GivingUp _) bytes start name = ⊥
+HasOther (Free _) bytes start name = ⊥
+HasOther (Sending sender) bytes start name = (sender.started ≡ true) × IsToldOther sender.sent bytes start name
+HasOther (Ended sent) bytes start name = ⊥
+HasOther (Failed reading) bytes start name = ⊥
 
--- the answer tells of the file that was marked: it was sent, or it has changed
+-- the marked file is sent from this start on in messages of this size, and has other bytes; or it is sent in others
+abbrev pub IsOtherStage : ℕ → Stage → List ℕ → ℕ → Type 0
+IsOtherStage message stages.Fresh bytes start = ⊥
+IsOtherStage message (stages.Sending first most size digest) bytes start =
+    (start ≡ first) × (most ≡ message → (length bytes ≡ size) × (sha256 bytes ≡ digest) → ⊥)
+IsOtherStage message (stages.Stopped first) bytes start = ⊥
+
+-- .. and has this name
+abbrev pub HasChanged : ℕ → Option Marked → List ℕ → ℕ → List ℕ → Type 0
+HasChanged message None bytes start name = ⊥
+HasChanged message (Some marked) bytes start name =
+    IsOtherStage message marked.mark.stage bytes start × (name ≡ marked.mark.name)
+
+-- the answer tells of the file that was marked: it was sent, or it has changed, and its start and name are told
 abbrev pub IsSettledFor : ℕ → Option Marked → List ℕ → Result Settled DropFault → Type 0
 IsSettledFor message marked bytes (Ok Ready) = Unit {0}
 IsSettledFor message marked bytes (Ok (WasSent sent)) = (most : ℕ) × IsMarked (mark_of most sent) marked
-IsSettledFor message marked bytes (Ok (Renewed start name)) = HasChanged message marked bytes
+IsSettledFor message marked bytes (Ok (Renewed start name)) = HasChanged message marked bytes start name
 IsSettledFor message marked bytes (Err fault) = Unit {0}
 
--- .. a file that is given up has changed
-abbrev pub GivesUpFor : Type 0 → Result Settled DropFault → Type 0
+-- .. of a file that is given up this holds, with the start and the name that are told
+abbrev pub GivesUpFor : (ℕ → List ℕ → Type 0) → Result Settled DropFault → Type 0
 GivesUpFor changed (Ok Ready) = Unit {0}
 GivesUpFor changed (Ok (WasSent sent)) = ⊥
-GivesUpFor changed (Ok (Renewed start name)) = changed
+GivesUpFor changed (Ok (Renewed start name)) = changed start name
 GivesUpFor changed (Err fault) = Unit {0}
 
 -- no file is marked, and one is to be taken

@@ -6,7 +6,7 @@ ghost use Rattle.folders.specs.Outboxes.{Settled as IsSettled};
 ghost use Rattle.file_dropper.specs.Leaving.{Fits, Leaves};
 ghost use Rattle.file_dropper.specs.Readings.{IsMeasure};
 ghost use Rattle.file_dropper.specs.Works.{HasFolderFault, MayAsk, LeavesNext, StandsBehind, StandsNext};
-ghost use Rattle.file_dropper.specs.Works.{HasOther, HasRoom, IsOther, MaySend, SendsPart, bytes_of};
+ghost use Rattle.file_dropper.specs.Works.{HasOther, HasRoom, IsOther, IsToldOther, MaySend, SendsPart, bytes_of};
 ghost use Rattle.file_dropper.specs.declared.answers.Next.TheVariants.{Idle, Message};
 ghost use Rattle.file_dropper.specs.declared.work.Work.TheVariants.{Free, Sending};
 
@@ -50,7 +50,7 @@ impl<O: Outbox> Dropper<O, O::File> {
         ensures behind { O.told.tells → (messages : List (List ℕ))
             → StandsBehind O.told O.File.left (record self.old { work = Free None }) messages
             → Leaves O.told messages self.old.outbox self.new.outbox
-            × StandsNext O.told O.File.left self.new messages into.new ⊥ result }
+            × StandsNext O.told O.File.left self.new messages into.new (λ start name. ⊥) result }
         ensures room { HasRoom self.old.message into.new result }
         ensures message { self.new.message ≡ self.old.message }
         ensures cause { IfErr result (HasFolderFault (O.told.count self.old.outbox) O.told O.File.faults self.new) }
@@ -78,7 +78,7 @@ impl<O: Outbox> Dropper<O, O::File> {
         ensures behind { O.told.tells → (messages : List (List ℕ))
             → StandsBehind O.told O.File.left (record self.old { work = Free (Some name.now) }) messages
             → Leaves O.told messages self.old.outbox self.new.outbox
-            × StandsNext O.told O.File.left self.new messages into.new ⊥ result }
+            × StandsNext O.told O.File.left self.new messages into.new (λ start name. ⊥) result }
         ensures begins { result ≡ Ok Idle → ⊥ }
         ensures room { HasRoom self.old.message into.new result }
         ensures message { self.new.message ≡ self.old.message }
@@ -197,7 +197,7 @@ impl<O: Outbox> Dropper<O, O::File> {
             (O.told.stands self.old.outbox).removed messages []
             → Leaves O.told messages self.old.outbox self.new.outbox
             × StandsNext O.told O.File.left self.new messages into.new
-            (IsOther sent.now (bytes_of (O.told.stands self.old.outbox).marked)) result }
+            (IsToldOther sent.now (bytes_of (O.told.stands self.old.outbox).marked)) result }
         ensures sends { result ≡ Ok Idle → ⊥ }
         ensures room { HasRoom self.old.message into.new result }
         ensures message { self.new.message ≡ self.old.message }
@@ -222,7 +222,7 @@ impl<O: Outbox> Dropper<O, O::File> {
             → IsOther sent.now (bytes_of (O.told.stands self.old.outbox).marked)
             → Leaves O.told messages self.old.outbox self.new.outbox
             × StandsNext O.told O.File.left self.new messages into.new
-            (IsOther sent.now (bytes_of (O.told.stands self.old.outbox).marked)) result }
+            (IsToldOther sent.now (bytes_of (O.told.stands self.old.outbox).marked)) result }
         ensures sends { result ≡ Ok Idle → ⊥ }
         ensures room { HasRoom self.old.message into.new result }
         ensures message { self.new.message ≡ self.old.message }

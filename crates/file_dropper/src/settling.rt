@@ -7,8 +7,8 @@ ghost use Rattle.folders.specs.Outboxes.{Settled as IsSettled, HasName};
 ghost use Rattle.file_dropper.specs.Leaving.{Fits, Leaves, cut_length};
 ghost use Rattle.file_dropper.specs.Works.{HasFolderFault, IsMarked, IsNotSettledHere, IsLawfulSent, MayAsk};
 ghost use Rattle.file_dropper.specs.Works.{MaySettle};
-ghost use Rattle.file_dropper.specs.Works.{GivesUpFor, IsOther, IsSettledFor, IsUnchanged, StandsBehind, bytes_of};
-ghost use Rattle.file_dropper.specs.Works.{mark_of};
+ghost use Rattle.file_dropper.specs.Works.{GivesUpFor, IsSettledFor, IsToldOf, IsToldOther, IsUnchanged, StandsBehind};
+ghost use Rattle.file_dropper.specs.Works.{bytes_of, mark_of};
 
 use crate::Dropper;
 use crate::answers::{DropFault, Settled};
@@ -111,7 +111,7 @@ impl<O: Outbox> Dropper<O, O::File> {
             × OnOk result (IsUnchanged self.new.message self.new.work (O.told.stands self.new.outbox) messages
             → StandsBehind O.told O.File.left self.new messages) }
         ensures answer { O.told.tells
-            → GivesUpFor (IsOther sent.now (bytes_of (O.told.stands self.new.outbox).marked)) result }
+            → GivesUpFor (IsToldOther sent.now (bytes_of (O.told.stands self.new.outbox).marked)) result }
         ensures message { self.new.message ≡ self.old.message }
         ensures cause { IfErr result (HasFolderFault (O.told.count self.old.outbox) O.told O.File.faults self.new) }
         ensures later { O.told.count self.old.outbox ≤ O.told.count self.new.outbox }
@@ -138,7 +138,7 @@ impl<O: Outbox> Dropper<O, O::File> {
             × OnOk result (IsUnchanged self.new.message self.new.work (O.told.stands self.new.outbox) messages
             → StandsBehind O.told O.File.left self.new messages) }
         ensures answer { O.told.tells
-            → GivesUpFor (IsOther sent.now (bytes_of (O.told.stands self.new.outbox).marked)) result }
+            → GivesUpFor (IsToldOther sent.now (bytes_of (O.told.stands self.new.outbox).marked)) result }
         ensures message { self.new.message ≡ self.old.message }
         ensures cause { IfErr result (HasFolderFault (O.told.count self.old.outbox) O.told O.File.faults self.new) }
         ensures later { O.told.count self.old.outbox ≤ O.told.count self.new.outbox }
@@ -170,7 +170,7 @@ impl<O: Outbox> Dropper<O, O::File> {
             × OnOk result (StandsBehind O.told O.File.left self.new messages) }
         ensures bytes { OnOk result (O.told.tells
             → bytes_of (O.told.stands self.new.outbox).marked ≡ bytes_of (O.told.stands self.old.outbox).marked) }
-        ensures answer { GivesUpFor (Unit {0}) result }
+        ensures answer { GivesUpFor (IsToldOf sent.now) result }
         ensures message { self.new.message ≡ self.old.message }
         ensures cause { IfErr result (HasFolderFault (O.told.count self.old.outbox) O.told O.File.faults self.new) }
         ensures later { O.told.count self.old.outbox ≤ O.told.count self.new.outbox }

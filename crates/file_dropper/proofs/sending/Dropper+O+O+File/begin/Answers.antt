@@ -55,5 +55,5 @@ returns-clause-behind g c = λ tells messages stands.
       leaves_then m tells messages d.outbox o3.outbox c.send.new.self.outbox
           (leaves_begun m tells messages d.outbox stands.settled (Some c.args.name.now) rest stands.work.0 o1.outbox bytes opens o1.message sent room start stands.work.1 o2.outbox two.moves two.ok o3.outbox whole reopens)
           later.0,
-      next_weaker m left c.send.new.self messages c.send.new.into _ _ c.send.result (λ other. let bad = sym first ∙ other.0 in cc) later.1,
+      next_weaker m left c.send.new.self messages c.send.new.into _ _ c.send.result (λ start name other. let bad = sym first ∙ other.0 in cc) later.1,
     )

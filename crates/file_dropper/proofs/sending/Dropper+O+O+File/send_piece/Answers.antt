@@ -38,7 +38,7 @@ returns-else-self-sender-clause-behind g c = λ tells messages stands.
     let later = c.stop.ensures.behind tells messages is stands.settled
     (marked_fits d.message old.sent s.marked s.removed messages (still_of left old) c.requires.may.on.least (c.requires.may.on.marked tells) stands.work.upto)
     (sends_none_more d.message old.sent bytes s.removed messages (still_of left old) stands.work.upto) other in
-    (later.0, next_weaker m left c.stop.new.self messages c.stop.new.into _ _ c.stop.result (λ o. (c.requires.started, o)) later.1)
+    (later.0, next_weaker m left c.stop.new.self messages c.stop.new.into _ _ c.stop.result (λ start name o. (c.requires.started, o)) later.1)
 
 pub returns-in-TooLong-clause-behind : goal.returns-in-TooLong-clause-behind
 returns-in-TooLong-clause-behind g c = λ tells messages stands.
@@ -54,7 +54,7 @@ returns-in-TooLong-clause-behind g c = λ tells messages stands.
     (marked_fits d.message old.sent s.marked s.removed messages (still_of left old) c.requires.may.on.least (c.requires.may.on.marked tells) stands.work.upto)
     (sends_none_more d.message old.sent bytes s.removed messages (still_of left old) stands.work.upto)
     (λ same. omega (arith, long, same.0, c.requires.may.on.work.sent.size)) in
-    (later.0, next_weaker m left c.stop-in-TooLong.new.self messages c.stop-in-TooLong.new.into _ _ c.stop-in-TooLong.result (λ o. (c.requires.started, o)) later.1)
+    (later.0, next_weaker m left c.stop-in-TooLong.new.self messages c.stop-in-TooLong.new.into _ _ c.stop-in-TooLong.result (λ start name o. (c.requires.started, o)) later.1)
 
 pub returns-in-Done-clause-behind : goal.returns-in-Done-clause-behind
 returns-in-Done-clause-behind g c = λ tells messages stands.
@@ -68,4 +68,4 @@ returns-in-Done-clause-behind g c = λ tells messages stands.
     let last = read_end left old.reading c.next.new.self c.next.new.into bytes stands.work.read c.next.result c.next.ensures.reads c.in-Done.is stands.work.reading in
     let later = c.send_end.ensures.behind tells messages is stands.settled (c.finish-measure.ensures.measure bytes bytes last.0)
     (subst (SendsPart d.message old.sent bytes s.removed messages) (begun left old c.requires.started ∙ last.1) stands.work.upto) in
-    (later.0, next_weaker m left c.send_end.new.self messages c.send_end.new.into _ _ c.send_end.result (λ o. (c.requires.started, o)) later.1)
+    (later.0, next_weaker m left c.send_end.new.self messages c.send_end.new.into _ _ c.send_end.result (λ start name o. (c.requires.started, o)) later.1)

@@ -108,5 +108,5 @@ returns-in-Done-clause-answer g c = λ tells.
     ] in
     let now : bytes_of (m.stands o.outbox).marked ≡ whole =
     ap (λ (s : Standing). bytes_of s.marked) (reopens.stands tells) ∙ bytes_opened mark whole (m.stands d.outbox).marked (c.requires.marked tells) in
-    gives_up_for c.give_up_file.result _ c.give_up_file.ensures.answer
+    gives_up_for sent _ c.give_up_file.result c.give_up_file.ensures.answer
     (on_weaker c.give_up_file.result _ _ c.give_up_file.ensures.bytes (λ kept. subst (IsOther sent) (sym (kept tells ∙ now)) other))

@@ -1,6 +1,7 @@
 -- What High's party does on a connection: messages of files are taken, and each is answered.
 use Rattle.std.specs.Prelude.{◌≡◌, ◌⊎◌, ℕ, ◌+◌, ◌<◌, ◌≤◌, Bool, true, false, List, [], ◌∷◌, ◌++◌, length}
-use Rattle.std.specs.Prelude.{Option, Some, None}
+use Rattle.std.specs.Prelude.{Option, Some, None, if◌then◌else◌}
+use Rattle.std.specs.Str.{bytes_eq}
 use Rattle.pump_frame.specs.Counts.{Rose}
 use Rattle.pump_frame.specs.declared.frame.Frame.{Frame}
 use Rattle.pump_frame.specs.declared.frame.Kind.TheVariants.{Attach, Taken}
@@ -10,7 +11,7 @@ use Rattle.pump_link.specs.declared.link.Looked.{Looked}
 use Rattle.disk_model.specs.Disk.{Meaning}
 use Rattle.stable_buffer.specs.Register.{register_disk}
 use Rattle.file_messages.specs.Files.{File, State, Between, Inside, state_after}
-use Rattle.file_messages.specs.Messages.{message_of}
+use Rattle.file_messages.specs.Messages.{message_of, abandon_message}
 use Rattle.file_messages.specs.Assemblies.{answer}
 use Rattle.folders.specs.Placing.{Placing}
 use Rattle.file_collector.specs.Gathering.{IsAnswer, IsWhyNot}
@@ -91,16 +92,16 @@ answer_in session (Passed f) = []
 answer_in session (Took f placed) = spelling (plain_frame Taken session f.number)
 answer_in session (Again f) = spelling (plain_frame Taken session f.number)
 
-abbrev pub placed_line : ℕ → ℕ → Placed → List ℕ
-placed_line session number Begun = []
-placed_line session number Grown = []
-placed_line session number (Shown shown) = file_line session number shown.size shown.digest shown.name.bytes
-placed_line session number (Dropped lost) = dropped_line session number lost.cause lost.name
-placed_line session number Odd = odd_line session number
+abbrev pub placed_line : ℕ → Frame → Placed → List ℕ
+placed_line session f Begun = []
+placed_line session f Grown = []
+placed_line session f (Shown shown) = file_line session f.number shown.size shown.digest shown.name.bytes
+placed_line session f (Dropped lost) = dropped_line session f.number lost.cause lost.name
+placed_line session f Odd = if bytes_eq f.payload abandon_message then [] else odd_line session f.number
 
 abbrev pub line_in : ℕ → Turn → List ℕ
 line_in session (Passed f) = []
-line_in session (Took f placed) = placed_line session f.number placed
+line_in session (Took f placed) = placed_line session f placed
 line_in session (Again f) = []
 
 abbrev pub lines : ℕ → List Turn → List ℕ

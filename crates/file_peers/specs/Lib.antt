@@ -1,3 +1,5 @@
 pub mod Collecting
+pub mod Delivering
+pub mod Dropping
 pub mod Lines
 pub mod Taking

@@ -1,6 +1,9 @@
 // High's party: the files that come over a connection are shown in a folder.
-ghost use Rattle.std.specs.Prelude.{◌≡◌, ℕ, ◌+◌, ◌^◌, ◌<◌, ◌≤◌, true, false, List, ◌++◌, [], length, Option, None};
+ghost use Rattle.std.specs.Prelude.{◌≡◌, ℕ, ◌+◌, ◌^◌, ◌<◌, ◌≤◌, true, false, List, ◌++◌, [], length};
+ghost use Rattle.std.specs.Prelude.{Option, None, Some};
 ghost use Rattle.std.specs.Io.KnownBytes.{Appends};
+ghost use Rattle.std.specs.Str.{bytes_eq};
+ghost use Rattle.file_messages.specs.Messages.{abandon_message};
 ghost use Rattle.pump_frame.specs.Counts.{Rose};
 ghost use Rattle.pump_frame.specs.Frames.{IsLawful};
 ghost use Rattle.pump_link.specs.Tells.{Draws, Grows};
@@ -44,14 +47,22 @@ fn is_wanted(row: &SessionRow, frame: &Frame) -> bool
         && (frame.session == row.id && frame.payload.len() <= row.message)
 }
 
+/// Is it the message that gives a file up?
+fn gives_up(frame: &Frame) -> bool
+    ensures { result ≡ bytes_eq frame.now.payload abandon_message }
+{
+    frame.payload.as_slice() == [4].as_slice()
+}
+
 /// Prints what a message came to, where a file ends with it or the message is none of a file, and says
-/// whether the line was written whole.
-fn print_placed<O: Sink>(out: &mut O, session: u32, number: u64, placed: &Placed) -> bool
+/// whether the line was written whole. Nothing is said where no file is given up.
+fn print_placed<O: Sink>(out: &mut O, session: u32, frame: &Frame, placed: &Placed) -> bool
     ensures printed { PrintsPart (O.written out.old) (O.written out.new) result
-        (placed_line session number placed.now) }
+        (placed_line session frame.now placed.now) }
     ensures later { O.faults out.old ≤ O.faults out.new }
     ensures failed { result ≡ false → Rose (O.faults out.old) (O.faults out.new) }
 {
+    let number = frame.number;
     match placed {
         Placed::Begun | Placed::Grown => true,
         Placed::Shown(shown) => {
@@ -63,7 +74,7 @@ fn print_placed<O: Sink>(out: &mut O, session: u32, number: u64, placed: &Placed
             print_file(out, session, number, &whole)
         }
         Placed::Dropped(lost) => print_dropped(out, session, number, lost.cause, &lost.name),
-        Placed::Odd => print_odd(out, session, number),
+        Placed::Odd => gives_up(frame) || print_odd(out, session, number),
     }
 }
 
@@ -85,6 +96,7 @@ where
         × TakesNext I.told I.Disk.told row before frame.now collector.old collector.new printed (O.faults out.old)
         (O.faults out.new) result
         × Appends (O.written out.old) (O.written out.new) printed }
+    ensures unwritten { result ≡ Some CollectEnd.Write → Rose (O.faults out.old) (O.faults out.new) }
     ensures out_later { O.faults out.old ≤ O.faults out.new }
 {
     let placed = match collector.place(&frame.payload) {
@@ -101,7 +113,7 @@ where
             faults: device.faults,
         });
     }
-    if print_placed(out, session, frame.number, &placed) {
+    if print_placed(out, session, frame, &placed) {
         None
     } else {
         Some(CollectEnd::Write)
@@ -152,6 +164,7 @@ where
         × Appends (O.written out.old) (O.written out.new) x.printed }
     ensures gives { Draws (C.gives link.old) (C.gives link.new) [] }
     ensures later { C.faults link.old ≤ C.faults link.new }
+    ensures unwritten { result ≡ Some CollectEnd.Write → Rose (O.faults out.old) (O.faults out.new) }
     ensures out_later { O.faults out.old ≤ O.faults out.new }
 {
     if !is_wanted(row, frame) {
@@ -201,6 +214,7 @@ where
         × Grows (C.sent link.old) (C.sent link.new) x.sent
         × Appends (O.written out.old) (O.written out.new) x.printed
         × KeepsCollector I.told I.Disk.told start collector.old collector.new x result }
+    ensures unwritten { result ≡ CollectEnd.Write → Rose (O.faults out.old) (O.faults out.new) }
     ensures out_later { O.faults out.old ≤ O.faults out.new }
 {
     if !send_frame(link, &plain_frame(Kind::Attach, row.id, collector.taken())) {

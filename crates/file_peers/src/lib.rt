@@ -3,6 +3,9 @@
 #![tactic(auto)]
 
 mod collect;
+mod drop;
 mod lines;
+mod resting;
 
 pub use collect::{CollectEnd, collect_with};
+pub use drop::{DropEnd, drop_with};

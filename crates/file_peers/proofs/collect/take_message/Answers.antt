@@ -73,11 +73,11 @@ returns-then-print_placed-clause-takes g c = λ row before id wanted has.
     let p = c.in-Ok.ensures in
     let e = c.in_default.ensures in
     let placed = p.placed before has in (
-      placed_line c.args.session f.number c.in-Ok.placed,
+      placed_line c.args.session f c.in-Ok.placed,
       (
         c.in-Ok.placed,
         made _ _ row before f _ _ _ c.in-Ok.placed wanted (c.requires.next ∙ count_is _ _ row before f _ has) (p.does before has) e.inbox p.register e.counts (e.counted before f.payload placed) (p.fits before has) (e.fits before f.payload placed),
-        ap (λ s. placed_line s f.number c.in-Ok.placed) (sym id),
+        ap (λ s. placed_line s f c.in-Ok.placed) (sym id),
       ),
       whole_printed _ _ _ _ c.if-print_placed.true c.print_placed.ensures.printed,
     )
@@ -93,7 +93,7 @@ returns-else-print_placed-clause-takes g c = λ row before id wanted has.
       (
         c.in-Ok.placed,
         made _ _ row before f _ _ _ c.in-Ok.placed wanted (c.requires.next ∙ count_is _ _ row before f _ has) (p.does before has) e.inbox p.register e.counts (e.counted before f.payload placed) (p.fits before has) (e.fits before f.payload placed),
-        (printed.1.0, ap (λ s. placed_line s f.number c.in-Ok.placed) id ∙ printed.1.1),
+        (printed.1.0, ap (λ s. placed_line s f c.in-Ok.placed) id ∙ printed.1.1),
         c.print_placed.ensures.failed c.if-print_placed.false,
       ),
       printed.3,

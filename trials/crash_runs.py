@@ -86,10 +86,16 @@ class Case:
 
     # How many runs there are for few images and for 100,000, and whether all was synced before.
     least, share, is_synced = 1, 6, True
+    # What reads its trace.
+    reader = Trace
 
     def __init__(self, program, folder, draw, number):
         self.program, self.folder, self.promises, self.whole = program, folder, [], set()
         self.prepare(draw, SHAPES[number % len(SHAPES)])
+
+    def at_first(self):
+        """Its disks before its first event."""
+        return Folder(self)
 
     def table(self, *rows):
         ports = free_ports(2 * len(rows))
@@ -123,6 +129,10 @@ class Case:
     def can_show(self, images):
         """Whether the program can say something of these images."""
         return bool(self.promises) and None not in images.values()
+
+    def is_wanted(self, images):
+        """Whether the program has to say something of these images, and not of a share of them alone."""
+        return False
 
     def is_shown(self, folder, images, draw):
         """Whether the program says of these images what the reader says."""
@@ -678,6 +688,6 @@ def recorded(kind, program, folder, draw, number):
     os.makedirs(f"{folder}/snapshots")
     case = KINDS[kind](program, folder, draw, number)
     watch([sys.executable, f"{HERE}/crash-images", "--inside", kind, program, folder, str(draw.randrange(2**32))], f"{folder}/trace")
-    case.events = Trace(f"{folder}/trace", folder).events
+    case.events = case.reader(f"{folder}/trace", folder).events
     case.last = {name: read(f"{folder}/{name}") for name in case.names if os.path.exists(f"{folder}/{name}")}
     return case

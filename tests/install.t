@@ -7,6 +7,8 @@
   ./opt/netpump/bin/netpump
   ./opt/netpump/bin/netpump-pack
   ./opt/netpump/bin/netpump-serve
+  ./opt/netpump/lib/systemd/system/netpump-collect@.service
+  ./opt/netpump/lib/systemd/system/netpump-drop@.service
   ./opt/netpump/lib/systemd/system/netpump-receive@.service
   ./opt/netpump/lib/systemd/system/netpump-records.service
   ./opt/netpump/lib/systemd/system/netpump-records.timer
@@ -14,6 +16,8 @@
   ./opt/netpump/share/bash-completion/completions/netpump
   ./opt/netpump/share/man/man1/netpump.1
   $ grep -h -o '/[a-z/]*/bin/netpump[-a-z]*' at/opt/netpump/lib/systemd/system/*
+  /opt/netpump/bin/netpump
+  /opt/netpump/bin/netpump
   /opt/netpump/bin/netpump
   /opt/netpump/bin/netpump-pack
   /opt/netpump/bin/netpump-serve
@@ -37,7 +41,7 @@ What is completed, where the last word is the one that is being typed.
   > }
   $ printf '[[session]]\nid = 7\n[[session]]\nid = 12\n' >two.toml
   $ completed netpump ''
-  append audit chain compare exercise format messages migrate race receive replay send serve show status unwrap wrap
+  append audit chain collect compare drop exercise format messages migrate race receive replay send serve show status unwrap wrap
   $ completed netpump re
   receive replay
   $ completed netpump serve tw

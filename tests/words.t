@@ -36,6 +36,11 @@ These are no commands.
   > send t.toml 1 4294967296
   > append t.toml 1 0
   > append t.toml 1
+  > drop t.toml 1 5
+  > drop t.toml 1 5 a/b
+  > drop t.toml 1 0 out
+  > collect t.toml 01 5 in
+  > collect t.toml 1 5 .in
   > serve t.toml 1 05
   > receive t.toml 1
   > recv t.toml 1 5
@@ -86,6 +91,11 @@ These are no commands.
   2 send t.toml 1 4294967296: fault words
   2 append t.toml 1 0: fault words
   2 append t.toml 1: fault words
+  2 drop t.toml 1 5: fault words
+  2 drop t.toml 1 5 a/b: fault words
+  2 drop t.toml 1 0 out: fault words
+  2 collect t.toml 01 5 in: fault words
+  2 collect t.toml 1 5 .in: fault words
   2 serve t.toml 1 05: fault words
   2 receive t.toml 1: fault words
   2 recv t.toml 1 5: fault words

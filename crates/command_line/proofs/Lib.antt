@@ -1,3 +1,4 @@
+pub mod Asked
 pub mod Commas
 pub mod Plain
 pub mod PlainWalks

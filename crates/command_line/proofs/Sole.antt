@@ -4,10 +4,10 @@ use Rattle.std.proofs.lemmas.Bool.{false≢true}
 use Rattle.std.proofs.lemmas.Slice.Eq.{bytes_eq-Decides}
 use Rattle.std.proofs.lemmas.Fmt.{decimal_injective}
 use Rattle.std.specs.Str.{bytes_eq}
-use Rattle.command_line.specs.Commands.{IsCommand, IsLooking, AreWordsOf, words_of}
+use Rattle.command_line.specs.Commands.{IsCommand, IsLooking, IsCarrying, AreWordsOf, words_of}
 use Rattle.command_line.proofs.Commas.{one_list}
 use Rattle.command_line.specs.declared.command.Command.{Command}
-use Rattle.command_line.specs.declared.command.Command.TheVariants.{Replay, Format, Show, Exercise, Race, Serve, Receive, Send, Append, Migrate, Wrap, Unwrap, Messages, Status, Audit, Compare, Chain}
+use Rattle.command_line.specs.declared.command.Command.TheVariants.{Replay, Format, Show, Exercise, Race, Serve, Receive, Send, Append, Migrate, Wrap, Unwrap, Messages, Status, Audit, Compare, Chain, DropFiles, CollectFiles}
 use Rattle.command_line.specs.declared.command.WordsFault.{WordsFault}
 use Rattle.command_line.specs.declared.command.WordsFault.TheVariants.{NoCommand, Memory}
 
@@ -30,6 +30,8 @@ name_of (Serve t n k) = codes "serve"
 name_of (Receive t n k) = codes "receive"
 name_of (Send t n k) = codes "send"
 name_of (Append t n k) = codes "append"
+name_of (DropFiles t n k u) = codes "drop"
+name_of (CollectFiles t n k u) = codes "collect"
 name_of (Migrate t n u m) = codes "migrate"
 name_of (Wrap t n) = codes "wrap"
 name_of (Unwrap t n) = codes "unwrap"
@@ -49,6 +51,15 @@ same_looks make t u n m i j h k name e =
     let sessions = same_number n m (omega (arith, h.1)) (omega (arith, k.1)) (ap (λ l. get_or l 2 []) e) in
     let looks = same_number i j (omega (arith, h.3)) (omega (arith, k.3)) (ap (λ l. get_or l 3 []) e) in
     λ p. make (tables p) (sessions p) (looks p)
+
+same_folder : (make : List ℕ → ℕ → ℕ → List ℕ → Command) (t u v w : List ℕ) (n m i j : ℕ) → IsCarrying t n i v → IsCarrying u m j w → (name : List ℕ)
+    → name ∷ t ∷ decimal n ∷ decimal i ∷ v ∷ [] ≡ name ∷ u ∷ decimal m ∷ decimal j ∷ w ∷ [] → make t n i v ≡ make u m j w
+same_folder make t u v w n m i j h k name e =
+    let tables : t ≡ u = ap (λ l. get_or l 1 []) e in
+    let sessions = same_number n m (omega (arith, h.0.1)) (omega (arith, k.0.1)) (ap (λ l. get_or l 2 []) e) in
+    let looks = same_number i j (omega (arith, h.0.3)) (omega (arith, k.0.3)) (ap (λ l. get_or l 3 []) e) in
+    let folders : v ≡ w = ap (λ l. get_or l 4 []) e in
+    λ p. make (tables p) (sessions p) (looks p) (folders p)
 
 one_command : (c d : Command) → IsCommand c → IsCommand d → words_of c ≡ words_of d → c ≡ d
 one_command Replay Replay h k e = refl
@@ -75,6 +86,10 @@ one_command (Send t n i) (Send u m j) h k e = same_looks Send t u n m i j h k (c
 one_command (Send t n i) d h k e = absurd (apart (codes "send") (name_of d) _ _ refl e)
 one_command (Append t n i) (Append u m j) h k e = same_looks Append t u n m i j h k (codes "append") e
 one_command (Append t n i) d h k e = absurd (apart (codes "append") (name_of d) _ _ refl e)
+one_command (DropFiles t n i v) (DropFiles u m j w) h k e = same_folder DropFiles t u v w n m i j h k (codes "drop") e
+one_command (DropFiles t n i v) d h k e = absurd (apart (codes "drop") (name_of d) _ _ refl e)
+one_command (CollectFiles t n i v) (CollectFiles u m j w) h k e = same_folder CollectFiles t u v w n m i j h k (codes "collect") e
+one_command (CollectFiles t n i v) d h k e = absurd (apart (codes "collect") (name_of d) _ _ refl e)
 one_command (Migrate t n v i) (Migrate u m w j) h k e =
     let tables : t ≡ u = ap (λ l. get_or l 1 []) e in
     let sessions = same_number n m (omega (arith, h.0.1)) (omega (arith, k.0.1)) (ap (λ l. get_or l 2 []) e) in

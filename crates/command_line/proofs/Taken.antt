@@ -8,12 +8,12 @@ use Rattle.clap.specs.Takes.{takes, level_passes, settle_passes, default_passes,
 use Rattle.clap.specs.declared.parser.matches.ValueSource.TheVariants.{CommandLine}
 use Rattle.clap.specs.declared.builder.value_parser.Reading.TheVariants.{AsWritten}
 use Rattle.clap.proofs.OnLiterals.{clap_on_literals}
-use Rattle.command_line.specs.Commands.{IsSession, IsLooking, IsCommand, AreWordsOf}
+use Rattle.command_line.specs.Commands.{IsSession, IsLooking, IsCarrying, IsCommand, AreWordsOf}
 use Rattle.command_line.specs.TimeLists.{AreTimes, times_word}
-use Rattle.command_line.specs.Found.{GivesSession, GivesLooks, GivesFrom, GivesNewSession, Gives, GivesIn}
+use Rattle.command_line.specs.Found.{GivesSession, GivesLooks, GivesFrom, GivesFolder, GivesNewSession, Gives, GivesIn}
 use Rattle.command_line.specs.Program.{bare, leaf_two, leaf_three, leaf_four, program, value_rule}
 use Rattle.command_line.specs.declared.command.Command.{Command}
-use Rattle.command_line.specs.declared.command.Command.TheVariants.{Replay, Format, Show, Exercise, Race, Serve, Receive, Send, Append, Migrate, Wrap, Unwrap, Messages, Status, Audit, Compare, Chain}
+use Rattle.command_line.specs.declared.command.Command.TheVariants.{Replay, Format, Show, Exercise, Race, Serve, Receive, Send, Append, Migrate, Wrap, Unwrap, Messages, Status, Audit, Compare, Chain, DropFiles, CollectFiles}
 use Rattle.command_line.proofs.PlainWalks.{behind, walks_on, passes_on, passed}
 use Rattle.command_line.proofs.Plain.{plain_decimal, plain_table, plain_times}
 
@@ -336,6 +336,80 @@ migrate_given t u n m h k rows e =
     rw (e, p.whole, q.whole, r.whole, s.whole, migrate_rows p.first q.first r.first s.first p.rest q.rest r.rest s.rest p.undashed q.undashed r.undashed s.undashed)
     ((refl, refl), (refl, refl))
 
+-- a session of a table, a number of looks and a folder
+
+abbrev pub folder_rules : List Rule
+folder_rules = filled_from 1 (value_rule (codes "TABLE") ∷ value_rule (codes "S") ∷ value_rule (codes "LOOKS") ∷ value_rule (codes "FOLDER") ∷ [])
+
+folder_rows : (x y z w : ℕ) (xs ys zs ws : Text) → (x == 45) ≡ false → (y == 45) ≡ false → (z == 45) ≡ false → (w == 45) ≡ false
+    → rows_after folder_rules [] ((x ∷ xs) ∷ (y ∷ ys) ∷ (z ∷ zs) ∷ (w ∷ ws) ∷ [])
+    ≡ row (codes "TABLE") (x ∷ xs) ∷ row (codes "S") (y ∷ ys) ∷ row (codes "LOOKS") (z ∷ zs) ∷ row (codes "FOLDER") (w ∷ ws) ∷ []
+unfolding clap_on_literals
+folder_rows x y z w xs ys zs ws h k m n = simp (h, k, m, n)
+
+abbrev folder_shape : Text → Shape
+folder_shape name = built_leaf (inherited bare.top (leaf_four name (codes "TABLE") (codes "S") (codes "LOOKS") (codes "FOLDER")).top)
+
+folder_passes : (name : Text) (x y z w : ℕ) (xs ys zs ws : Text) → (x == 45) ≡ false → (y == 45) ≡ false → (z == 45) ≡ false → (w == 45) ≡ false
+    → level_passes (folder_shape name) [] nothing_held ((x ∷ xs) ∷ (y ∷ ys) ∷ (z ∷ zs) ∷ (w ∷ ws) ∷ []) false ≡ true
+folder_passes name x y z w xs ys zs ws h k m n =
+    let s = folder_shape name in
+    let one = (behind s.rules nothing_held 1 (x ∷ xs)).held in
+    let two = (behind s.rules one 2 (y ∷ ys)).held in
+    let three = (behind s.rules two 3 (z ∷ zs)).held in
+    let after_one = (y ∷ ys) ∷ (z ∷ zs) ∷ (w ∷ ws) ∷ [] in
+    let after_two = (z ∷ zs) ∷ (w ∷ ws) ∷ [] in
+    let after_three = (w ∷ ws) ∷ [] in
+    let walk = walks_on nothing_held 1 x xs h s.rules after_one ∙ walks_on one 2 y ys k s.rules after_two ∙ walks_on two 3 z zs m s.rules after_three ∙ walks_on three 4 w ws n s.rules [] in
+    let words = passes_on nothing_held 1 x xs h s after_one ∙ passes_on one 2 y ys k s after_two ∙ passes_on two 3 z zs m s after_three ∙ passes_on three 4 w ws n s [] ∙ passed s _ in
+    ap₂ (λ b (end : Walk). b && (settle_passes s.rules s.args_override_self end.held && (list_all default_passes s.rules && is_valid s (finished s.rules end.held) false))) words walk
+
+drop_met : (t s u v : Text) → subcommand_of program (codes "drop" ∷ t ∷ s ∷ u ∷ v ∷ []) ≡ Some (codes "drop", rows_after folder_rules [] (t ∷ s ∷ u ∷ v ∷ []))
+unfolding clap_on_literals
+drop_met t s u v = refl
+
+drop_entered : (t s u v : Text) → takes program (codes "drop" ∷ t ∷ s ∷ u ∷ v ∷ []) ≡ (level_passes (folder_shape (codes "drop")) [] nothing_held (t ∷ s ∷ u ∷ v ∷ []) false && true)
+unfolding clap_on_literals
+drop_entered t s u v = refl
+
+drop_taken : (x y z w : ℕ) (xs ys zs ws : Text) → (x == 45) ≡ false → (y == 45) ≡ false → (z == 45) ≡ false → (w == 45) ≡ false
+    → takes program (codes "drop" ∷ (x ∷ xs) ∷ (y ∷ ys) ∷ (z ∷ zs) ∷ (w ∷ ws) ∷ []) ≡ true
+drop_taken x y z w xs ys zs ws h k m n = drop_entered _ _ _ _ ∙ ap (λ b. b && true) (folder_passes (codes "drop") x y z w xs ys zs ws h k m n)
+
+collect_met : (t s u v : Text) → subcommand_of program (codes "collect" ∷ t ∷ s ∷ u ∷ v ∷ []) ≡ Some (codes "collect", rows_after folder_rules [] (t ∷ s ∷ u ∷ v ∷ []))
+unfolding clap_on_literals
+collect_met t s u v = refl
+
+collect_entered : (t s u v : Text) → takes program (codes "collect" ∷ t ∷ s ∷ u ∷ v ∷ []) ≡ (level_passes (folder_shape (codes "collect")) [] nothing_held (t ∷ s ∷ u ∷ v ∷ []) false && true)
+unfolding clap_on_literals
+collect_entered t s u v = refl
+
+collect_taken : (x y z w : ℕ) (xs ys zs ws : Text) → (x == 45) ≡ false → (y == 45) ≡ false → (z == 45) ≡ false → (w == 45) ≡ false
+    → takes program (codes "collect" ∷ (x ∷ xs) ∷ (y ∷ ys) ∷ (z ∷ zs) ∷ (w ∷ ws) ∷ []) ≡ true
+collect_taken x y z w xs ys zs ws h k m n = collect_entered _ _ _ _ ∙ ap (λ b. b && true) (folder_passes (codes "collect") x y z w xs ys zs ws h k m n)
+
+folder_taken : (name t u : Text) (n k : ℕ) → IsCarrying t n k u
+    → ((x y z w : ℕ) (xs ys zs ws : Text) → (x == 45) ≡ false → (y == 45) ≡ false → (z == 45) ≡ false → (w == 45) ≡ false
+    → takes program (name ∷ (x ∷ xs) ∷ (y ∷ ys) ∷ (z ∷ zs) ∷ (w ∷ ws) ∷ []) ≡ true)
+    → takes program (name ∷ t ∷ decimal n ∷ decimal k ∷ u ∷ []) ≡ true
+folder_taken name t u n k h taken =
+    let p = plain_table t h.0.0 in
+    let q = plain_decimal n (omega (arith, h.0.1)) in
+    let r = plain_decimal k (omega (arith, h.0.3)) in
+    let s = plain_table u h.1 in
+    rw (p.whole, q.whole, r.whole, s.whole)
+    (taken p.first q.first r.first s.first p.rest q.rest r.rest s.rest p.undashed q.undashed r.undashed s.undashed)
+
+folder_given : (t u : Text) (n k : ℕ) → IsCarrying t n k u → (rows : List Row) → rows ≡ rows_after folder_rules [] (t ∷ decimal n ∷ decimal k ∷ u ∷ [])
+    → GivesFolder t n k u rows
+folder_given t u n k h rows e =
+    let p = plain_table t h.0.0 in
+    let q = plain_decimal n (omega (arith, h.0.1)) in
+    let r = plain_decimal k (omega (arith, h.0.3)) in
+    let s = plain_table u h.1 in
+    rw (e, p.whole, q.whole, r.whole, s.whole, folder_rows p.first q.first r.first s.first p.rest q.rest r.rest s.rest p.undashed q.undashed r.undashed s.undashed)
+    ((refl, refl, refl), refl)
+
 -- clap takes the words of each command
 pub words_taken : (words : List Text) (c : Command) → AreWordsOf words c → takes program words ≡ true
 words_taken words Replay h = ap (takes program) h.1 ∙ replay_taken
@@ -354,6 +428,8 @@ words_taken words (Serve t n k) h = ap (takes program) h.1 ∙ looks_taken (code
 words_taken words (Receive t n k) h = ap (takes program) h.1 ∙ looks_taken (codes "receive") t n k h.0 receive_taken
 words_taken words (Send t n k) h = ap (takes program) h.1 ∙ looks_taken (codes "send") t n k h.0 send_taken
 words_taken words (Append t n k) h = ap (takes program) h.1 ∙ looks_taken (codes "append") t n k h.0 append_taken
+words_taken words (DropFiles t n k u) h = ap (takes program) h.1 ∙ folder_taken (codes "drop") t u n k h.0 drop_taken
+words_taken words (CollectFiles t n k u) h = ap (takes program) h.1 ∙ folder_taken (codes "collect") t u n k h.0 collect_taken
 words_taken words (Migrate t n u m) h =
     let p = plain_table t h.0.0.0 in
     let q = plain_decimal n (omega (arith, h.0.0.1)) in
@@ -405,6 +481,8 @@ values_found words (Serve t n k) h = found_as (Serve t n k) h.1 (serve_met _ _ _
 values_found words (Receive t n k) h = found_as (Receive t n k) h.1 (receive_met _ _ _) (refl, looks_given t n k h.0)
 values_found words (Send t n k) h = found_as (Send t n k) h.1 (send_met _ _ _) (refl, looks_given t n k h.0)
 values_found words (Append t n k) h = found_as (Append t n k) h.1 (append_met _ _ _) (refl, looks_given t n k h.0)
+values_found words (DropFiles t n k u) h = found_as (DropFiles t n k u) h.1 (drop_met _ _ _ _) (refl, folder_given t u n k h.0 _ refl)
+values_found words (CollectFiles t n k u) h = found_as (CollectFiles t n k u) h.1 (collect_met _ _ _ _) (refl, folder_given t u n k h.0 _ refl)
 values_found words (Migrate t n u m) h =
     let given = migrate_given t u n m h.0.0 h.0.1 _ refl in
     found_as (Migrate t n u m) h.1 (migrate_met _ _ _ _) (refl, given.0, given.1)

@@ -6,6 +6,7 @@ use Rattle.command_line.specs.declared.command.Command.{Command}
 use Rattle.command_line.specs.declared.command.Command.TheVariants.{Replay, Format, Show, Exercise, Race, Serve}
 use Rattle.command_line.specs.declared.command.Command.TheVariants.{Receive, Send, Append, Migrate, Wrap, Unwrap}
 use Rattle.command_line.specs.declared.command.Command.TheVariants.{Messages, Status, Audit, Compare, Chain}
+use Rattle.command_line.specs.declared.command.Command.TheVariants.{DropFiles, CollectFiles}
 
 -- a session of a table
 abbrev pub IsSession : List ℕ → ℕ → Type 0
@@ -14,6 +15,10 @@ IsSession table session = (is_table_name table ≡ true) × (session < 2 ^ 32)
 -- .. and a number of looks
 abbrev pub IsLooking : List ℕ → ℕ → ℕ → Type 0
 IsLooking table session looks = (is_table_name table ≡ true) × (session < 2 ^ 32) × (1 ≤ looks) × (looks < 2 ^ 32)
+
+-- .. and a folder
+abbrev pub IsCarrying : List ℕ → ℕ → ℕ → List ℕ → Type 0
+IsCarrying table session looks folder = IsLooking table session looks × (is_table_name folder ≡ true)
 
 -- a command: its name and its numbers are in their ranges
 abbrev pub IsCommand : Command → Type 0
@@ -26,6 +31,8 @@ IsCommand (Serve table session looks) = IsLooking table session looks
 IsCommand (Receive table session looks) = IsLooking table session looks
 IsCommand (Send table session looks) = IsLooking table session looks
 IsCommand (Append table session looks) = IsLooking table session looks
+IsCommand (DropFiles table session looks folder) = IsCarrying table session looks folder
+IsCommand (CollectFiles table session looks folder) = IsCarrying table session looks folder
 IsCommand (Migrate table session new_table new_session) = IsSession table session × IsSession new_table new_session
 IsCommand (Wrap table session) = IsSession table session
 IsCommand (Unwrap table session) = IsSession table session
@@ -46,6 +53,10 @@ words_of (Serve table session looks) = codes "serve" ∷ table ∷ decimal sessi
 words_of (Receive table session looks) = codes "receive" ∷ table ∷ decimal session ∷ decimal looks ∷ []
 words_of (Send table session looks) = codes "send" ∷ table ∷ decimal session ∷ decimal looks ∷ []
 words_of (Append table session looks) = codes "append" ∷ table ∷ decimal session ∷ decimal looks ∷ []
+words_of (DropFiles table session looks folder) =
+    codes "drop" ∷ table ∷ decimal session ∷ decimal looks ∷ folder ∷ []
+words_of (CollectFiles table session looks folder) =
+    codes "collect" ∷ table ∷ decimal session ∷ decimal looks ∷ folder ∷ []
 words_of (Migrate table session new_table new_session) = codes "migrate" ∷ table ∷ decimal session ∷ new_table ∷ decimal
     new_session ∷ []
 words_of (Wrap table session) = codes "wrap" ∷ table ∷ decimal session ∷ []

@@ -8,6 +8,7 @@ use Rattle.command_line.specs.declared.command.Command.{Command}
 use Rattle.command_line.specs.declared.command.Command.TheVariants.{Replay, Format, Show, Exercise, Race, Serve}
 use Rattle.command_line.specs.declared.command.Command.TheVariants.{Receive, Send, Append, Migrate, Wrap, Unwrap}
 use Rattle.command_line.specs.declared.command.Command.TheVariants.{Messages, Status, Audit, Compare, Chain}
+use Rattle.command_line.specs.declared.command.Command.TheVariants.{DropFiles, CollectFiles}
 
 -- the values that were found are this session of the table
 abbrev pub GivesSession : List ℕ → ℕ → List Row → Type 0
@@ -23,6 +24,11 @@ GivesNewSession table session rows = (first_of (codes "NEWTABLE") rows ≡ Some 
 abbrev pub GivesLooks : List ℕ → ℕ → ℕ → List Row → Type 0
 GivesLooks table session looks rows = (first_of (codes "TABLE") rows ≡ Some table)
     × (first_of (codes "S") rows ≡ Some (decimal session)) × (first_of (codes "LOOKS") rows ≡ Some (decimal looks))
+
+-- .. this session of the table, this number of looks and this folder
+abbrev pub GivesFolder : List ℕ → ℕ → ℕ → List ℕ → List Row → Type 0
+GivesFolder table session looks folder rows = GivesLooks table session looks rows
+    × (first_of (codes "FOLDER") rows ≡ Some folder)
 
 -- .. this session of the table and this number of a message
 abbrev pub GivesFrom : List ℕ → ℕ → ℕ → List Row → Type 0
@@ -43,6 +49,10 @@ Gives (Serve table session looks) name rows = (name ≡ codes "serve") × GivesL
 Gives (Receive table session looks) name rows = (name ≡ codes "receive") × GivesLooks table session looks rows
 Gives (Send table session looks) name rows = (name ≡ codes "send") × GivesLooks table session looks rows
 Gives (Append table session looks) name rows = (name ≡ codes "append") × GivesLooks table session looks rows
+Gives (DropFiles table session looks folder) name rows = (name ≡ codes "drop")
+    × GivesFolder table session looks folder rows
+Gives (CollectFiles table session looks folder) name rows = (name ≡ codes "collect")
+    × GivesFolder table session looks folder rows
 Gives (Migrate table session new_table new_session) name rows = (name ≡ codes "migrate")
     × GivesSession table session rows × GivesNewSession new_table new_session rows
 Gives (Wrap table session) name rows = (name ≡ codes "wrap") × GivesSession table session rows

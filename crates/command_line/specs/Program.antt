@@ -56,6 +56,13 @@ with_relays above =
     (leaf_three (codes "append") (codes "TABLE") (codes "S") (codes "LOOKS")).top)
     (leaf_four (codes "migrate") (codes "TABLE") (codes "S") (codes "NEWTABLE") (codes "T")).top
 
+-- with the commands that carry files from folder to folder
+abbrev pub with_folders : App → App
+with_folders above =
+    with_subcommand (with_subcommand above
+    (leaf_four (codes "drop") (codes "TABLE") (codes "S") (codes "LOOKS") (codes "FOLDER")).top)
+    (leaf_four (codes "collect") (codes "TABLE") (codes "S") (codes "LOOKS") (codes "FOLDER")).top
+
 -- with the commands over files, what a receiver has, records and chains
 abbrev pub with_files : App → App
 with_files above =
@@ -70,4 +77,4 @@ with_files above =
     (leaf_none (codes "chain")).top
 
 abbrev pub program : App
-program = with_files (with_relays (with_scripts bare))
+program = with_files (with_folders (with_relays (with_scripts bare)))

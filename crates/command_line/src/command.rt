@@ -75,6 +75,28 @@ pub enum Command {
         /// How many looks at links and attempts to connect are made at most, at least 1.
         looks: u32,
     },
+    /// Sends the files of a folder to a session of the table over TCP, as the party Low.
+    DropFiles {
+        /// The file with the table.
+        table: TableName,
+        /// The id of its row.
+        session: u32,
+        /// How many looks at the link there are at most, at least 1.
+        looks: u32,
+        /// The folder.
+        folder: TableName,
+    },
+    /// Puts the files that come over a session of the table into a folder, as the party High.
+    CollectFiles {
+        /// The file with the table.
+        table: TableName,
+        /// The id of its row.
+        session: u32,
+        /// How many looks at the link there are at most, at least 1.
+        looks: u32,
+        /// The folder.
+        folder: TableName,
+    },
     /// Writes a session of the table on the empty disks of another one, which may be of another table.
     Migrate {
         /// The file with the table.

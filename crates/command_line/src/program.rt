@@ -10,7 +10,7 @@ use clap::{Arg, Command as Program};
 use std::alloc::{AllocError, Global};
 
 /// The commands by name, each with its values.
-const COMMANDS: [(&str, &[&str]); 17] = [
+const COMMANDS: [(&str, &[&str]); 19] = [
     ("replay", &[]),
     ("format", &["TABLE", "S"]),
     ("show", &["TABLE", "S"]),
@@ -21,6 +21,8 @@ const COMMANDS: [(&str, &[&str]); 17] = [
     ("send", &["TABLE", "S", "LOOKS"]),
     ("append", &["TABLE", "S", "LOOKS"]),
     ("migrate", &["TABLE", "S", "NEWTABLE", "T"]),
+    ("drop", &["TABLE", "S", "LOOKS", "FOLDER"]),
+    ("collect", &["TABLE", "S", "LOOKS", "FOLDER"]),
     ("wrap", &["TABLE", "S"]),
     ("unwrap", &["TABLE", "S"]),
     ("messages", &["TABLE", "S", "FROM"]),

@@ -126,6 +126,29 @@ fn name_number(words: &[String], name: &str, table: &TableName, session: u32, nu
     )
 }
 
+/// Are they one that has a number and another name behind it?
+fn name_folder(
+    words: &[String],
+    name: &str,
+    table: &TableName,
+    numbers: (u32, u32),
+    folder: &TableName,
+) -> bool
+    ensures { IsTrue result ↔ (map string_bytes words.now ≡ name.now ∷ table.now ∷ decimal numbers.0 ∷ decimal
+        numbers.1 ∷ folder.now ∷ []) }
+{
+    let mut one = itoa::Buffer::new();
+    let mut two = itoa::Buffer::new();
+    are_five(
+        words,
+        name,
+        table.as_str(),
+        one.format(numbers.0),
+        two.format(numbers.1),
+        folder.as_str(),
+    )
+}
+
 /// Are these the words of the command?
 pub(crate) fn is_spelled(command: &Command, words: &[String]) -> bool
     requires { IsCommand command.now }
@@ -168,6 +191,18 @@ pub(crate) fn is_spelled(command: &Command, words: &[String]) -> bool
             session,
             looks,
         } => name_number(words, "append", table, *session, *looks),
+        Command::DropFiles {
+            table,
+            session,
+            looks,
+            folder,
+        } => name_folder(words, "drop", table, (*session, *looks), folder),
+        Command::CollectFiles {
+            table,
+            session,
+            looks,
+            folder,
+        } => name_folder(words, "collect", table, (*session, *looks), folder),
         Command::Exercise { seed, count } => are_three(
             words,
             "exercise",

@@ -17,8 +17,8 @@ use Rattle.commands.specs.LentDisks.{IsNotGivenFirst, RecvFailsAt}
 use Rattle.commands.specs.Migrating.{session_at}
 use Rattle.commands.specs.Migrating as moves
 use Rattle.commands.specs.TakenDisks.{AreOutAt, RoseAt}
-use Rattle.commands.specs.declared.command_end.CommandEnd.{CommandEnd}
-use Rattle.commands.specs.declared.command_end.CommandEnd.TheVariants.{Memory, Failed}
+use Rattle.command_ends.specs.declared.command_end.CommandEnd.{CommandEnd}
+use Rattle.command_ends.specs.declared.command_end.CommandEnd.TheVariants.{Memory, Failed}
 use Rattle.commands.proofs.LentDisks.{rises_back}
 
 -- nothing was done with the disks before

@@ -12,12 +12,12 @@ use Rattle.stable_buffer.specs.Format.{new_bytes}
 use Rattle.two_worlds.specs.Openings.{StandForFound}
 use Rattle.two_worlds.proofs.Opening.NewDisks.{nothing_stands}
 use Rattle.commands.specs.Formatting.{IsSpared, first_full, IsFormatted, FormatStops, FormatsSo, IsDiskEnd}
-use Rattle.commands.specs.Tables.{HasRow}
+use Rattle.command_ends.specs.Tables.{HasRow}
 use Rattle.script_replay.specs.Lending.{ReadAt, IsOutAt, RisesAt, AreOnShelf}
 use Rattle.script_replay.specs.Shelves.{Places, reading_in, reading_at, LeavesOtherSessions, ReadsAlike}
 use Rattle.commands.specs.TakenDisks.{HasBytes, RoseAt, StopsFormat}
-use Rattle.commands.specs.declared.command_end.CommandEnd.{CommandEnd}
-use Rattle.commands.specs.declared.command_end.CommandEnd.TheVariants.{Memory, Failed, Refused}
+use Rattle.command_ends.specs.declared.command_end.CommandEnd.{CommandEnd}
+use Rattle.command_ends.specs.declared.command_end.CommandEnd.TheVariants.{Memory, Failed, Refused}
 use Rattle.script_replay.specs.declared.disks.TakenDisks.{TakenDisks}
 use Rattle.script_replay.proofs.Shelving.{read_in, name_is, rose_more, others_so, spares_so}
 

@@ -19,8 +19,8 @@ use Rattle.script_replay.proofs.Shelving.{read_in}
 use Rattle.stable_buffer.specs.Format.{receiver_size}
 use Rattle.commands.specs.LentDisks.{LeavesOtherDisks, LeavesBut, StopsAtDisk}
 use Rattle.commands.specs.Showing.{end_at}
-use Rattle.commands.specs.declared.command_end.CommandEnd.{CommandEnd}
-use Rattle.commands.specs.declared.command_end.CommandEnd.TheVariants.{Memory, Failed}
+use Rattle.command_ends.specs.declared.command_end.CommandEnd.{CommandEnd}
+use Rattle.command_ends.specs.declared.command_end.CommandEnd.TheVariants.{Memory, Failed}
 
 -- ---- names ----
 

@@ -1,4 +1,3 @@
-pub mod CommandEnds
 pub mod Failing
 pub mod Formatted
 pub mod LentDisks
@@ -8,7 +7,6 @@ pub mod MovedFound
 pub mod Printed
 pub mod ReadFiles
 pub mod Shown
-pub mod TableRows
 pub mod Told
 pub mod Unwrapped
 pub mod Wrapped

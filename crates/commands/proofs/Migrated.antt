@@ -15,13 +15,13 @@ use Rattle.script_replay.specs.Shelves.{Places, OfDisks, disk_name, reading_in, 
 use Rattle.script_replay.specs.declared.disks.TakenDisks.{TakenDisks}
 use Rattle.script_replay.proofs.Shelving.{read_in, name_is}
 use Rattle.commands.specs.LentDisks.{LeavesOtherPair}
-use Rattle.commands.specs.CommandEnds.{end_line}
+use Rattle.command_ends.specs.CommandEnds.{end_line}
 use Rattle.commands.specs.Migrating.{AreInTurn, AreMoved, AreTurned, AreRows, HasNoRows, Migrates, MigratesSo, ReadsOthersAlike, MigratesTo, MigrateStops, HaltsSo, MovesTo, StopsMove, FailsAt, IsUntaken, counted_line, halt_of, halted, session_at}
 use Rattle.commands.specs.Showing.{end_at}
-use Rattle.commands.specs.Tables.{HasRow, IsTableEnd}
+use Rattle.command_ends.specs.Tables.{HasRow, IsTableEnd}
 use Rattle.commands.specs.TakenDisks.{AreReadAt, AreOutAt, RiseAt, RoseAt, ReadOn, SpareOn}
-use Rattle.commands.specs.declared.command_end.CommandEnd.{CommandEnd}
-use Rattle.commands.specs.declared.command_end.CommandEnd.TheVariants.{Memory, Unread, NoRow, Failed, Refused}
+use Rattle.command_ends.specs.declared.command_end.CommandEnd.{CommandEnd}
+use Rattle.command_ends.specs.declared.command_end.CommandEnd.TheVariants.{Memory, Unread, NoRow, Failed, Refused}
 use Rattle.commands.specs.declared.migrate.Counts.{Counts}
 use Rattle.commands.specs.declared.migrate.Halt.{Halt}
 use Rattle.recovery.specs.Calls.{is_device}

@@ -6,7 +6,7 @@ use Rattle.std.specs.Option.{ok_or}
 use Rattle.disk_model.specs.Plain.{Plain}
 use Rattle.disk_model.specs.Shelf.{ReadsFile}
 use Rattle.commands.specs.ReadDisks.{Holds, IsReadOf}
-use Rattle.commands.specs.declared.command_end.CommandEnd.{CommandEnd}
+use Rattle.command_ends.specs.declared.command_end.CommandEnd.{CommandEnd}
 
 -- the part of the room that the file fills is what was read of it
 pub read_of : (file : Option (List ℕ)) (old new slice : List ℕ) (n count : ℕ) → ReadsFile file old new n → length old ≡ 16777216 → count ≡ min n 16777216 → slice ≡ take count new → IsReadOf file slice

@@ -19,10 +19,10 @@ use Rattle.two_worlds.specs.declared.not_open.NotOpen.{NotOpen}
 use Rattle.script_replay.specs.Lending.{ReadAt, AreOnShelf}
 use Rattle.script_replay.specs.Shelves.{Places, OfDisks, disk_name, reading_at, LeavesOtherSessions, ReadsAlike}
 use Rattle.commands.specs.Showing.{live_messages, shown_counts, shown, IsShown, ShowStops, ShowsSo, end_at}
-use Rattle.commands.specs.Tables.{HasRow}
+use Rattle.command_ends.specs.Tables.{HasRow}
 use Rattle.commands.specs.TakenDisks.{RoseAt}
-use Rattle.commands.specs.declared.command_end.CommandEnd.{CommandEnd}
-use Rattle.commands.specs.declared.command_end.CommandEnd.TheVariants.{Memory, Failed, Refused}
+use Rattle.command_ends.specs.declared.command_end.CommandEnd.{CommandEnd}
+use Rattle.command_ends.specs.declared.command_end.CommandEnd.TheVariants.{Memory, Failed, Refused}
 use Rattle.script_replay.specs.declared.disks.TakenDisks.{TakenDisks}
 use Rattle.commands.proofs.Formatted.{disk_of, was, alike_so}
 use Rattle.script_replay.proofs.Shelving.{others_so}

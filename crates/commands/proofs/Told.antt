@@ -13,13 +13,13 @@ use Rattle.recovery.specs.declared.why.Why.TheVariants as whys
 use Rattle.stable_buffer.specs.Numbers.{length_at}
 use Rattle.stable_buffer.specs.Register.{value_of}
 use Rattle.stable_buffer.specs.Stands.{low_size, slot_of}
-use Rattle.commands.specs.CommandEnds.{end_line}
+use Rattle.command_ends.specs.CommandEnds.{end_line}
 use Rattle.commands.specs.ReadDisks.{Holds, IsReadOrNot, AreRead, refused_recv}
 use Rattle.commands.specs.Showing.{end_at}
-use Rattle.commands.specs.Tables.{HasRow}
+use Rattle.command_ends.specs.Tables.{HasRow}
 use Rattle.commands.specs.Telling.{kind, RefusesPump, RefusesEach, StopsTelling, TellsStatus}
-use Rattle.commands.specs.declared.command_end.CommandEnd.{CommandEnd}
-use Rattle.commands.specs.declared.command_end.CommandEnd.TheVariants as ends
+use Rattle.command_ends.specs.declared.command_end.CommandEnd.{CommandEnd}
+use Rattle.command_ends.specs.declared.command_end.CommandEnd.TheVariants as ends
 
 -- ---- a cause of one disk alone, or of the two together ----
 

@@ -12,15 +12,15 @@ use Rattle.script_replay.specs.Shelves.{Places, reading_at, ReadsAlike}
 use Rattle.recovery.specs.Refusals.{refused_receiver}
 use Rattle.stable_buffer.specs.Format.{receiver_size}
 use Rattle.stable_buffer.specs.Log.{RecvStands}
-use Rattle.commands.specs.CommandEnds.{end_status}
+use Rattle.command_ends.specs.CommandEnds.{end_status}
 use Rattle.commands.specs.Unwrapping.{end_of_gather, unwrap_status, IsUnwrapStatus, NamesFailedDisk, UnwrapsOn, UnwrapsFrom, Unwraps}
-use Rattle.commands.specs.Tables.{HasRow, IsTableEnd}
-use Rattle.commands.specs.declared.command_end.CommandEnd.{CommandEnd}
-use Rattle.commands.specs.declared.command_end.CommandEnd.TheVariants.{Memory, Unread, NoRow, Failed}
+use Rattle.command_ends.specs.Tables.{HasRow, IsTableEnd}
+use Rattle.command_ends.specs.declared.command_end.CommandEnd.{CommandEnd}
+use Rattle.command_ends.specs.declared.command_end.CommandEnd.TheVariants.{Memory, Unread, NoRow, Failed}
 use Rattle.commands.specs.declared.unwrap.UnwrapEnd.{UnwrapEnd}
 use Rattle.commands.specs.declared.unwrap.UnwrapEnd.TheVariants.{Whole, Unfinished, Stopped}
 use Rattle.commands.specs.declared.unwrap.UnwrapEnd.TheVariants as answers
-use Rattle.commands.proofs.CommandEnds.{names_failed}
+use Rattle.command_ends.proofs.CommandEnds.{names_failed}
 
 -- messages that were all gathered stop nothing
 no_stop : (whole : Bool) (end : CommandEnd) → (if whole then Whole else Unfinished) ≡ Stopped end → ⊥

@@ -27,16 +27,16 @@ use Rattle.stable_buffer.specs.Format.{new_bytes}
 use Rattle.two_worlds.specs.Openings.{IsLeft, IsRefused, StandForFound, readied}
 use Rattle.two_worlds.specs.declared.applied.Stop.{Stop}
 use Rattle.two_worlds.specs.declared.applied.Stop.TheVariants as stops
-use Rattle.commands.specs.CommandEnds.{end_status}
+use Rattle.command_ends.specs.CommandEnds.{end_status}
 use Rattle.commands.specs.Showing.{end_at}
 use Rattle.commands.specs.TakenDisks.{RoseAt}
-use Rattle.commands.specs.Tables.{HasRow, IsTableEnd}
+use Rattle.command_ends.specs.Tables.{HasRow, IsTableEnd}
 use Rattle.commands.specs.Wrapping.{IsSendStatus, FailsAtFormat, HoldsFile, HoldsOn, Leaves, NamesFailedDisk, RefusesSession, StopsAtShelf, Wraps, WrapsFrom, WritesSend, end_of_stop, end_of_wrap, is_long, send_line, send_status}
-use Rattle.commands.specs.declared.command_end.CommandEnd.{CommandEnd}
-use Rattle.commands.specs.declared.command_end.CommandEnd.TheVariants.{Memory, Unread, NoRow, Failed, Unwritten}
+use Rattle.command_ends.specs.declared.command_end.CommandEnd.{CommandEnd}
+use Rattle.command_ends.specs.declared.command_end.CommandEnd.TheVariants.{Memory, Unread, NoRow, Failed, Unwritten}
 use Rattle.commands.specs.declared.wrap.SendEnd.{SendEnd}
 use Rattle.commands.specs.declared.wrap.SendEnd.TheVariants.{Sent, Differs, TooLong, Stopped}
-use Rattle.commands.proofs.CommandEnds.{names_failed}
+use Rattle.command_ends.proofs.CommandEnds.{names_failed}
 use Rattle.commands.proofs.Formatted.{was, is}
 
 -- ---- ends ----

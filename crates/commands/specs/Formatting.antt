@@ -9,11 +9,11 @@ use Rattle.script_reader.specs.Openings.{nothing_found}
 use Rattle.script_reader.specs.Transcript.{line_with_end}
 use Rattle.stable_buffer.specs.Format.{new_bytes}
 use Rattle.two_worlds.specs.Openings.{StandForFound}
-use Rattle.commands.specs.CommandEnds.{end_line}
+use Rattle.command_ends.specs.CommandEnds.{end_line}
 use Rattle.script_replay.specs.Shelves.{Places, OfDisks, reading_at, LeavesOtherSessions, ReadsAlike, Spares}
-use Rattle.commands.specs.Tables.{HasRow, HasNoRow}
-use Rattle.commands.specs.declared.command_end.CommandEnd.{CommandEnd}
-use Rattle.commands.specs.declared.command_end.CommandEnd.TheVariants.{Done, Memory, Unread, NoRow, Failed, Refused}
+use Rattle.command_ends.specs.Tables.{HasRow, HasNoRow}
+use Rattle.command_ends.specs.declared.command_end.CommandEnd.{CommandEnd}
+use Rattle.command_ends.specs.declared.command_end.CommandEnd.TheVariants.{Done, Memory, Unread, NoRow, Failed, Refused}
 
 -- every disk that was not empty reads as it did, and disks of other sessions are where they were
 pub record IsSpared (before after : Places) (session : ℕ) : Type 0 where

@@ -11,8 +11,8 @@ use Rattle.recovery.specs.Refusals.{refused_receiver}
 use Rattle.script_replay.specs.Failing.{CameBackFailed}
 use Rattle.script_replay.specs.Shelves.{Places, disk_name}
 use Rattle.stable_buffer.specs.Format.{receiver_size}
-use Rattle.commands.specs.declared.command_end.CommandEnd.{CommandEnd}
-use Rattle.commands.specs.declared.command_end.CommandEnd.TheVariants.{Memory, Failed, Refused}
+use Rattle.command_ends.specs.declared.command_end.CommandEnd.{CommandEnd}
+use Rattle.command_ends.specs.declared.command_end.CommandEnd.TheVariants.{Memory, Failed, Refused}
 
 -- every disk but the one of this name is where it was
 abbrev pub LeavesOtherDisks : Places → Places → DiskName → Type 0

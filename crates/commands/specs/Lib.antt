@@ -1,12 +1,10 @@
 pub mod Auditing
-pub mod CommandEnds
 pub mod Formatting
 pub mod LentDisks
 pub mod Messages
 pub mod Migrating
 pub mod ReadDisks
 pub mod Showing
-pub mod Tables
 pub mod TakenDisks
 pub mod Telling
 pub mod Unwrapping

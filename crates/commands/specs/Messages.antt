@@ -11,11 +11,11 @@ use Rattle.script_reader.specs.HexFields.{hex_field}
 use Rattle.script_reader.specs.Transcript.{line_with_end}
 use Rattle.stable_buffer.specs.Format.{receiver_size}
 use Rattle.stable_buffer.specs.Log.{RecvStands}
-use Rattle.commands.specs.CommandEnds.{end_line}
+use Rattle.command_ends.specs.CommandEnds.{end_line}
 use Rattle.commands.specs.ReadDisks.{disk_file, IsReadOf}
-use Rattle.commands.specs.Tables.{HasRow, HasNoRow}
-use Rattle.commands.specs.declared.command_end.CommandEnd.{CommandEnd}
-use Rattle.commands.specs.declared.command_end.CommandEnd.TheVariants.{Done, Memory, Unread, NoRow, Failed, Refused}
+use Rattle.command_ends.specs.Tables.{HasRow, HasNoRow}
+use Rattle.command_ends.specs.declared.command_end.CommandEnd.{CommandEnd}
+use Rattle.command_ends.specs.declared.command_end.CommandEnd.TheVariants.{Done, Memory, Unread, NoRow, Failed, Refused}
 
 -- the line of a message: its session, its number and its bytes
 abbrev pub message_line : ℕ → ℕ → List ℕ → List ℕ

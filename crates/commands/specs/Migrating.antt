@@ -18,12 +18,12 @@ use Rattle.script_replay.specs.Shelves.{Places, OfDisks, reading_at, reading_in,
 use Rattle.script_replay.specs.declared.disks.TakenDisks.{TakenDisks}
 use Rattle.stable_buffer.specs.Format.{receiver_size}
 use Rattle.two_worlds.specs.Openings.{StandForFound}
-use Rattle.commands.specs.CommandEnds.{end_line, table_line}
+use Rattle.command_ends.specs.CommandEnds.{end_line, table_line}
 use Rattle.commands.specs.Showing.{end_at}
-use Rattle.commands.specs.Tables.{HasRow, HasNoRow}
+use Rattle.command_ends.specs.Tables.{HasRow, HasNoRow}
 use Rattle.commands.specs.TakenDisks.{RoseAt, ReadOn}
-use Rattle.commands.specs.declared.command_end.CommandEnd.{CommandEnd}
-use Rattle.commands.specs.declared.command_end.CommandEnd.TheVariants.{Done, Memory, Unread, NoRow, Failed, Refused}
+use Rattle.command_ends.specs.declared.command_end.CommandEnd.{CommandEnd}
+use Rattle.command_ends.specs.declared.command_end.CommandEnd.TheVariants.{Done, Memory, Unread, NoRow, Failed, Refused}
 use Rattle.commands.specs.declared.migrate.Counts.{Counts}
 use Rattle.commands.specs.declared.migrate.Halt.{Halt}
 

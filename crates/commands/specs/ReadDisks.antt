@@ -10,8 +10,8 @@ use Rattle.recovery.specs.Refusals.{or_else, told_of, refused_disk, refused_rece
 use Rattle.recovery.specs.declared.why.Why.{Why}
 use Rattle.script_reader.specs.Transcript.{role_field}
 use Rattle.stable_buffer.specs.Format.{receiver_size}
-use Rattle.commands.specs.declared.command_end.CommandEnd.{CommandEnd}
-use Rattle.commands.specs.declared.command_end.CommandEnd.TheVariants.{Memory, Failed}
+use Rattle.command_ends.specs.declared.command_end.CommandEnd.{CommandEnd}
+use Rattle.command_ends.specs.declared.command_end.CommandEnd.TheVariants.{Memory, Failed}
 
 -- the name of the file of a disk
 abbrev pub file_name : ℕ → Role → List ℕ

@@ -10,11 +10,11 @@ use Rattle.script_reader.specs.Transcript.{text}
 use Rattle.script_reader.specs.declared.event.Event.{Event}
 use Rattle.script_reader.specs.declared.event.Event.TheVariants.{Show, Live}
 use Rattle.two_worlds.specs.Openings.{StandForFound, IsRefused}
-use Rattle.commands.specs.CommandEnds.{end_line}
+use Rattle.command_ends.specs.CommandEnds.{end_line}
 use Rattle.script_replay.specs.Shelves.{Places, OfDisks, LeavesOtherSessions, ReadsAlike}
-use Rattle.commands.specs.Tables.{HasRow, HasNoRow}
-use Rattle.commands.specs.declared.command_end.CommandEnd.{CommandEnd}
-use Rattle.commands.specs.declared.command_end.CommandEnd.TheVariants.{Done, Memory, Unread, NoRow, Failed, Refused}
+use Rattle.command_ends.specs.Tables.{HasRow, HasNoRow}
+use Rattle.command_ends.specs.declared.command_end.CommandEnd.{CommandEnd}
+use Rattle.command_ends.specs.declared.command_end.CommandEnd.TheVariants.{Done, Memory, Unread, NoRow, Failed, Refused}
 
 -- ---- the lines ----
 

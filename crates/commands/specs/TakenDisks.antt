@@ -7,8 +7,8 @@ use Rattle.disk_model.specs.declared.name.Role.TheVariants as roles
 use Rattle.pump_frame.specs.Counts.{Rose}
 use Rattle.recovery.specs.declared.why.Why.TheVariants.{NotEmpty}
 use Rattle.commands.specs.Formatting.{first_full}
-use Rattle.commands.specs.declared.command_end.CommandEnd.{CommandEnd}
-use Rattle.commands.specs.declared.command_end.CommandEnd.TheVariants.{Failed, Refused}
+use Rattle.command_ends.specs.declared.command_end.CommandEnd.{CommandEnd}
+use Rattle.command_ends.specs.declared.command_end.CommandEnd.TheVariants.{Failed, Refused}
 use Rattle.script_replay.specs.Lending.{ReadAt, IsOutAt, RisesAt}
 use Rattle.script_replay.specs.Shelves.{Places}
 use Rattle.script_replay.specs.declared.disks.TakenDisks.{TakenDisks}

@@ -6,14 +6,14 @@ use Rattle.disk_model.specs.Plain.{Plain}
 use Rattle.pump_frame.specs.declared.row.SessionRow.{SessionRow}
 use Rattle.script_reader.specs.Transcript.{line_with_end}
 use Rattle.stable_buffer.specs.Register.{value_of}
-use Rattle.commands.specs.CommandEnds.{end_line}
+use Rattle.command_ends.specs.CommandEnds.{end_line}
 use Rattle.recovery.specs.Refusals.{or_else, told_of, refused_disk}
 use Rattle.recovery.specs.declared.why.Why.{Why}
 use Rattle.recovery.specs.declared.why.Why.TheVariants as whys
 use Rattle.commands.specs.ReadDisks.{IsReadOf, AreRead, refused_each, refused_recv}
-use Rattle.commands.specs.Tables.{HasRow, HasNoRow}
-use Rattle.commands.specs.declared.command_end.CommandEnd.{CommandEnd}
-use Rattle.commands.specs.declared.command_end.CommandEnd.TheVariants.{Done, Memory, Unread, NoRow, Failed, Refused}
+use Rattle.command_ends.specs.Tables.{HasRow, HasNoRow}
+use Rattle.command_ends.specs.declared.command_end.CommandEnd.{CommandEnd}
+use Rattle.command_ends.specs.declared.command_end.CommandEnd.TheVariants.{Done, Memory, Unread, NoRow, Failed, Refused}
 
 -- a count, or a dash where there is none
 abbrev pub count_field : Option ℕ → List ℕ

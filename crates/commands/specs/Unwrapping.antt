@@ -12,11 +12,11 @@ use Rattle.recovery.specs.Refusals.{refused_receiver}
 use Rattle.script_replay.specs.Shelves.{Places, reading_at, ReadsAlike}
 use Rattle.stable_buffer.specs.Format.{receiver_size}
 use Rattle.stable_buffer.specs.Log.{RecvStands}
-use Rattle.commands.specs.CommandEnds.{NamesFailed, end_status}
-use Rattle.commands.specs.Tables.{StopsAtTable, HasRow}
+use Rattle.command_ends.specs.CommandEnds.{NamesFailed, end_status}
+use Rattle.command_ends.specs.Tables.{StopsAtTable, HasRow}
 use Rattle.commands.specs.LentDisks.{StopsAtDisk}
-use Rattle.commands.specs.declared.command_end.CommandEnd.{CommandEnd}
-use Rattle.commands.specs.declared.command_end.CommandEnd.TheVariants.{NoRow, Failed, Unwritten}
+use Rattle.command_ends.specs.declared.command_end.CommandEnd.{CommandEnd}
+use Rattle.command_ends.specs.declared.command_end.CommandEnd.TheVariants.{NoRow, Failed, Unwritten}
 use Rattle.commands.specs.declared.unwrap.UnwrapEnd.{UnwrapEnd}
 use Rattle.commands.specs.declared.unwrap.UnwrapEnd.TheVariants.{Whole, Unfinished, NotWrapped, Stopped}
 

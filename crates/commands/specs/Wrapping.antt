@@ -22,12 +22,12 @@ use Rattle.script_replay.specs.Shelves.{Places, OfDisks, HasFound, IsRefusedFor,
 use Rattle.script_replay.specs.Shelves.{ReadsAlike, reading_at}
 use Rattle.two_worlds.specs.declared.applied.Stop.{Stop}
 use Rattle.two_worlds.specs.declared.applied.Stop.TheVariants as stops
-use Rattle.commands.specs.CommandEnds.{NamesFailed, end_line, end_status}
+use Rattle.command_ends.specs.CommandEnds.{NamesFailed, end_line, end_status}
 use Rattle.commands.specs.Showing.{end_at}
-use Rattle.commands.specs.Tables.{HasRow, StopsAtFile}
-use Rattle.commands.specs.declared.command_end.CommandEnd.{CommandEnd}
-use Rattle.commands.specs.declared.command_end.CommandEnd.TheVariants.{Memory, Unread, BadLine, NoRow, Failed, Refused}
-use Rattle.commands.specs.declared.command_end.CommandEnd.TheVariants.{Full, Unwritten}
+use Rattle.command_ends.specs.Tables.{HasRow, StopsAtFile}
+use Rattle.command_ends.specs.declared.command_end.CommandEnd.{CommandEnd}
+use Rattle.command_ends.specs.declared.command_end.CommandEnd.TheVariants.{Memory, Unread, BadLine, NoRow, Failed, Refused}
+use Rattle.command_ends.specs.declared.command_end.CommandEnd.TheVariants.{Full, Unwritten}
 use Rattle.commands.specs.declared.wrap.SendEnd.{SendEnd}
 use Rattle.commands.specs.declared.wrap.SendEnd.TheVariants.{Sent, Differs, TooLong, Stopped}
 

@@ -8,8 +8,8 @@ ghost use Rattle.pump_audit.specs.declared.compared.Compared.TheVariants.{Differ
 ghost use Rattle.commands.specs.Auditing.{verdict_line, verdict_status, part_word, compared_line, compared_status};
 ghost use Rattle.commands.specs.Auditing.{EndsAudit, EndsComparison};
 
-use crate::command_end::{put, put_number, put_one, put_three, put_two};
 use arrayvec::ArrayVec;
+use command_ends::{put, put_number, put_one, put_three, put_two};
 use pump_audit::{AuditFault, Compared, Verdict, What, audit, compare};
 use pump_link::{Sink, Source, write_all};
 use script_reader::{Fault, append_fault};

@@ -1,10 +1,8 @@
-//! How a command ends, in a status and a fault line, and the commands that run on one thread: those over
-//! the disks of a session of a table, which are taken off a shelf and put back, those that read the files
-//! of such disks beside a relay, and those over records.
+//! The commands that run on one thread: those over the disks of a session of a table, which are taken off
+//! a shelf and put back, those that read the files of such disks beside a relay, and those over records.
 #![tactic(auto)]
 
 mod audit;
-mod command_end;
 mod disk_pair;
 mod format;
 mod messages;
@@ -12,18 +10,15 @@ mod migrate;
 mod read_disk;
 mod show;
 mod status;
-mod table_row;
 mod unwrap;
 mod wrap;
 
 pub use audit::{audit_script, compare_script};
-pub use command_end::{CommandEnd, finish};
 pub use disk_pair::{DiskPair, put_pair_back, take_pair};
 pub use format::{format_session, untaken};
 pub use messages::print_messages;
 pub use migrate::migrate_session;
 pub use show::{end_at, show_session};
 pub use status::tell_status;
-pub use table_row::row_in_file;
 pub use unwrap::{UnwrapEnd, unwrap_session};
 pub use wrap::{SendEnd, wrap_session};

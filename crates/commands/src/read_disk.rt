@@ -3,9 +3,8 @@
 ghost use Rattle.std.specs.Prelude.{◌≡◌, ◌≤◌, length, false, IfOk, IfErr, IfSome};
 ghost use Rattle.commands.specs.ReadDisks.{file_name, disk_file, Holds, IsReadOf, IsUnread};
 
-use crate::command_end::CommandEnd;
-use crate::table_row::zeros;
 use arrayvec::ArrayString;
+use command_ends::{CommandEnd, zeros};
 use disk_model::{Disk, PlainDisk, Role, Shelf, ShelfFault};
 use stable_buffer::RECEIVER_SIZE;
 use std::alloc::Global;

@@ -9,13 +9,12 @@ ghost use Rattle.script_replay.specs.Shelves.{AllAreBack, ReadsAlike, reading_at
 ghost use Rattle.commands.specs.LentDisks.{RecvFailsAt};
 ghost use Rattle.commands.specs.Unwrapping.{IsUnwrapStatus, Unwraps, UnwrapsFrom, UnwrapsOn, end_of_gather};
 ghost use Rattle.commands.specs.Unwrapping.{unwrap_status};
-ghost use Rattle.commands.specs.declared.command_end.CommandEnd.TheVariants as ends;
+ghost use Rattle.command_ends.specs.declared.command_end.CommandEnd.TheVariants as ends;
 ghost use Rattle.commands.specs.declared.unwrap.UnwrapEnd.TheVariants.{Stopped};
 
-use crate::command_end::CommandEnd;
 use crate::format::untaken;
 use crate::show::end_at;
-use crate::table_row::row_in_file;
+use command_ends::{CommandEnd, row_in_file};
 use command_line::TableName;
 use disk_model::{Disk, Role, Shelf};
 use pump_frame::SessionRow;

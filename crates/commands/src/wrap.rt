@@ -9,14 +9,13 @@ ghost use Rattle.script_replay.specs.Failing.{FailsAt};
 ghost use Rattle.script_replay.specs.Shelves.{AllAreBack};
 ghost use Rattle.commands.specs.Wrapping.{IsSendStatus, Wraps, WrapsAll, WrapsFrom, WrapsOn, WritesSend, end_of_stop};
 ghost use Rattle.commands.specs.Wrapping.{end_of_wrap, is_long, send_line, send_status};
-ghost use Rattle.commands.specs.declared.command_end.CommandEnd.TheVariants as ends;
+ghost use Rattle.command_ends.specs.declared.command_end.CommandEnd.TheVariants as ends;
 ghost use Rattle.commands.specs.declared.wrap.SendEnd.TheVariants.{Stopped};
 
-use crate::command_end::{CommandEnd, put, put_end, put_three, put_two};
 use crate::format::untaken;
 use crate::show::end_at;
-use crate::table_row::row_in_file;
 use arrayvec::ArrayVec;
+use command_ends::{CommandEnd, put, put_end, put_three, put_two, row_in_file};
 use command_line::TableName;
 use disk_model::Shelf;
 use pump_frame::SessionRow;

@@ -9,8 +9,8 @@ use Rattle.peers.specs.declared.append.AppendEnd.{AppendEnd}
 use Rattle.peers.specs.declared.append.AppendEnd.TheVariants as appender
 use Rattle.dispatch.specs.Appendings.{end_of_appender, is_write, TellsEnd}
 use Rattle.dispatch.specs.LiveEnds.{IsNoDiskEnd}
-use Rattle.commands.specs.declared.command_end.CommandEnd.{CommandEnd}
-use Rattle.commands.specs.declared.command_end.CommandEnd.TheVariants.{Memory, Unread, Unwritten, Unconnected}
+use Rattle.command_ends.specs.declared.command_end.CommandEnd.{CommandEnd}
+use Rattle.command_ends.specs.declared.command_end.CommandEnd.TheVariants.{Memory, Unread, Unwritten, Unconnected}
 
 pub it_was_write : (came : AppendEnd) → is_write came ≡ true → came ≡ appender.Write
 it_was_write appender.Write e = refl

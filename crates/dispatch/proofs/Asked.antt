@@ -3,14 +3,15 @@ use Rattle.std.proofs.Common.{rules, ◌≡◌, ◌⊎◌, ℕ, Bool, true, fals
 use Rattle.std.specs.Io.KnownBytes.{Appends}
 use Rattle.arrayvec.specs.ArrayVec.{ArrayVec}
 use Rattle.command_line.specs.Commands.{AreWordsOf}
+use Rattle.command_line.proofs.Asked.{Asks, not_command, read_words}
 use Rattle.command_line.specs.declared.command.Command.{Command}
-use Rattle.command_line.specs.declared.command.Command.TheVariants.{Replay, Format, Show, Exercise, Race, Serve, Receive, Send, Append, Migrate, Wrap, Unwrap, Messages, Status, Audit, Compare, Chain}
+use Rattle.command_line.specs.declared.command.Command.TheVariants.{Replay, Format, Show, Exercise, Race, Serve, Receive, Send, Append, Migrate, Wrap, Unwrap, Messages, Status, Audit, Compare, Chain, DropFiles, CollectFiles}
 use Rattle.command_line.specs.declared.command.WordsFault.{WordsFault}
 use Rattle.command_line.specs.declared.command.WordsFault.TheVariants.{NoCommand, Memory}
 use Rattle.disk_model.specs.declared.name.Role.{Role}
 use Rattle.disk_model.specs.declared.name.Role.TheVariants.{Recv}
-use Rattle.commands.specs.CommandEnds.{EndsSo, EndsWithStatus, end_status}
-use Rattle.dispatch.specs.Commands.{IsNoCommand, IsNoLiveCommand, IsBeside, IsWrap, ReadsScript, is_live}
+use Rattle.command_ends.specs.CommandEnds.{EndsSo, EndsWithStatus, end_status}
+use Rattle.dispatch.specs.Commands.{IsNoCommand, IsNoLiveCommand, IsBeside, IsWrap, ReadsScript, is_live, is_batch}
 use Rattle.exercises.specs.Exercises.{EndsExercise}
 use Rattle.commands.specs.Formatting.{Formats}
 use Rattle.commands.specs.Messages.{PrintsMessages}
@@ -26,17 +27,8 @@ use Rattle.commands.specs.declared.wrap.SendEnd.{SendEnd}
 use Rattle.commands.specs.declared.wrap.SendEnd.TheVariants.{Stopped as SentStop}
 use Rattle.commands.proofs.Wrapped.{nothing_given}
 use Rattle.script_replay.specs.Shelves.{Places}
-use Rattle.commands.specs.declared.command_end.CommandEnd.{CommandEnd}
-use Rattle.commands.specs.declared.command_end.CommandEnd.TheVariants as ends
-
--- words that are no command are not this one
-pub not_command : (c : Command) → (let r : Result Command WordsFault = Err NoCommand in (r ≡ Ok c) ⊎ (r ≡ Err Memory)) → ⊥
-not_command c (inl found) = cc
-not_command c (inr memory) = cc
-
-pub same_command : (b c : Command) → (let r : Result Command WordsFault = Ok b in (r ≡ Ok c) ⊎ (r ≡ Err Memory)) → b ≡ c
-same_command b c (inl found) = cc
-same_command b c (inr memory) = cc
+use Rattle.command_ends.specs.declared.command_end.CommandEnd.{CommandEnd}
+use Rattle.command_ends.specs.declared.command_end.CommandEnd.TheVariants as ends
 
 table_is : (t u : List ℕ) (n m : ℕ) → Format t n ≡ Format u m → t ≡ u
 table_is t u n m e = cc
@@ -258,29 +250,7 @@ module _ (End : List ℕ → ℕ → ℕ → Type 0) (t u : List ℕ) (n m k l :
       let same = sym one ∙ other in
       subst (λ (x : List ℕ × ℕ × ℕ). End x.0 x.1 x.2) (λ i. (append_table t u n m k l same i, append_session t u n m k l same i, append_looks t u n m k l same i)) ends
 
--- the words as the slice that is read
-pub read_words : (words slice : List (String Global)) (c : Command) → slice ≡ words → AreWordsOf (map string_bytes words) c → AreWordsOf (map string_bytes slice) c
-read_words words slice c is h = subst (λ (ws : List (String Global)). AreWordsOf (map string_bytes ws) c) (sym is) h
-
--- the words are those of the call
-pub words_are : (words slice : List (String Global)) (c call : Command) → slice ≡ words → AreWordsOf (map string_bytes slice) c → c ≡ call → AreWordsOf (map string_bytes words) call
-words_are words slice c call is h same = subst (λ (x : List (String Global) × Command). AreWordsOf (map string_bytes x.0) x.1) (λ i. (is i, same i)) h
-
--- ---- the one command that the words are, and no other one ----
-
--- the words are those of this command, and of no other one
-pub record Asks (words : List (List ℕ)) (call : Command) : Type 0 where
-  pub are : AreWordsOf words call
-  pub only : (c : Command) → AreWordsOf words c → call ≡ c
-
-pub asks : (words slice : List (String Global)) (b call : Command) → slice ≡ words → AreWordsOf (map string_bytes slice) b
-    → ((c : Command) → AreWordsOf (map string_bytes slice) c → (let r : Result Command WordsFault = Ok b in (r ≡ Ok c) ⊎ (r ≡ Err Memory))) → b ≡ call → Asks (map string_bytes words) call
-asks words slice b call value are command is = record {
-  are = words_are words slice b call value are is;
-  only = λ c h. sym is ∙ same_command b c (command c (read_words words slice c value h));
-}
-
--- .. and of none
+-- the words are those of no command that `batch` runs
 pub asks_none : (words slice : List (String Global)) → slice ≡ words
     → ((c : Command) → AreWordsOf (map string_bytes slice) c → (let r : Result Command WordsFault = Err NoCommand in (r ≡ Ok c) ⊎ (r ≡ Err Memory))) → IsNoCommand (map string_bytes words)
 asks_none words slice value command c still h = not_command c (command c (read_words words slice c value h))
@@ -308,6 +278,8 @@ kind Chain = 13
 kind (Messages table session from) = 14
 kind (Status table session) = 15
 kind (Append table session looks) = 16
+kind (DropFiles table session looks folder) = 17
+kind (CollectFiles table session looks folder) = 18
 
 -- the commands that read the script
 abbrev pub is_script : Command → Bool
@@ -363,24 +335,28 @@ never_script words none (inr (inl h)) = none Chain refl (tt, h)
 never_script words none (inr (inr (inl h))) = none Audit refl (tt, h)
 never_script words none (inr (inr (inr h))) = none Compare refl (tt, h)
 
--- a command of `live`
-abbrev pub IsLiveOne : Command → Type 0
-IsLiveOne b = ((seed count : ℕ) × (times : ArrayVec ℕ) × (b ≡ Race seed count times))
+-- a command of `live`, or one over folders
+abbrev pub IsElsewhere : Command → Type 0
+IsElsewhere b = ((seed count : ℕ) × (times : ArrayVec ℕ) × (b ≡ Race seed count times))
     ⊎ (((table : List ℕ) × (session looks : ℕ) × (b ≡ Serve table session looks))
     ⊎ (((table : List ℕ) × (session looks : ℕ) × (b ≡ Receive table session looks))
     ⊎ (((table : List ℕ) × (session looks : ℕ) × (b ≡ Send table session looks))
-    ⊎ ((table : List ℕ) × (session looks : ℕ) × (b ≡ Append table session looks)))))
+    ⊎ (((table : List ℕ) × (session looks : ℕ) × (b ≡ Append table session looks))
+    ⊎ (((table : List ℕ) × (session looks : ℕ) × (folder : List ℕ) × (b ≡ DropFiles table session looks folder))
+    ⊎ ((table : List ℕ) × (session looks : ℕ) × (folder : List ℕ) × (b ≡ CollectFiles table session looks folder)))))))
 
-pub live_one : (b : Command) → IsLiveOne b → is_live b ≡ true
-live_one b (inl (seed, count, times, e)) = ap is_live e
-live_one b (inr (inl (table, session, looks, e))) = ap is_live e
-live_one b (inr (inr (inl (table, session, looks, e)))) = ap is_live e
-live_one b (inr (inr (inr (inl (table, session, looks, e))))) = ap is_live e
-live_one b (inr (inr (inr (inr (table, session, looks, e))))) = ap is_live e
+pub elsewhere_one : (b : Command) → IsElsewhere b → is_batch b ≡ false
+elsewhere_one b (inl (seed, count, times, e)) = ap is_batch e
+elsewhere_one b (inr (inl (table, session, looks, e))) = ap is_batch e
+elsewhere_one b (inr (inr (inl (table, session, looks, e)))) = ap is_batch e
+elsewhere_one b (inr (inr (inr (inl (table, session, looks, e))))) = ap is_batch e
+elsewhere_one b (inr (inr (inr (inr (inl (table, session, looks, e)))))) = ap is_batch e
+elsewhere_one b (inr (inr (inr (inr (inr (inl (table, session, looks, folder, e))))))) = ap is_batch e
+elsewhere_one b (inr (inr (inr (inr (inr (inr (table, session, looks, folder, e))))))) = ap is_batch e
 
-pub live_alone : (words : List (List ℕ)) (call : Command) → is_live call ≡ true → Asks words call → IsNoCommand words
-live_alone words call live a c still h =
-    let e : is_live call ≡ is_live c = ap is_live (a.only c h) in
+pub elsewhere_alone : (words : List (List ℕ)) (call : Command) → is_batch call ≡ false → Asks words call → IsNoCommand words
+elsewhere_alone words call elsewhere a c still h =
+    let e : is_batch call ≡ is_batch c = ap is_batch (a.only c h) in
     cc
 
 -- a command that is none of `live`

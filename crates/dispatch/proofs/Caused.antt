@@ -1,17 +1,16 @@
 -- What a status of a command tells of its causes.
 use Rattle.std.proofs.Common.{◌≡◌, ◌⊎◌, ℕ, ◌≤◌, false, nat_eq, zero, suc, List, [], Option, inl, inr, refl, sym, ap, ◌∙◌, subst, arith}
 use Rattle.std.specs.Io.KnownBytes.{Appends}
-use Rattle.commands.specs.CommandEnds.{end_status}
+use Rattle.command_ends.specs.CommandEnds.{TellsWords, end_status}
 use Rattle.commands.specs.Unwrapping.{IsUnwrapStatus, unwrap_status}
 use Rattle.commands.specs.Wrapping.{IsSendStatus, send_status}
-use Rattle.commands.specs.declared.command_end.CommandEnd.{CommandEnd}
-use Rattle.commands.specs.declared.command_end.CommandEnd.TheVariants as ends
+use Rattle.command_ends.specs.declared.command_end.CommandEnd.{CommandEnd}
+use Rattle.command_ends.specs.declared.command_end.CommandEnd.TheVariants as ends
 use Rattle.commands.specs.declared.unwrap.UnwrapEnd.{UnwrapEnd}
 use Rattle.commands.specs.declared.unwrap.UnwrapEnd.TheVariants as unwraps
 use Rattle.commands.specs.declared.wrap.SendEnd.{SendEnd}
 use Rattle.commands.specs.declared.wrap.SendEnd.TheVariants as sends
 use Rattle.disk_model.specs.declared.name.Role.{Role}
-use Rattle.dispatch.specs.Commands.{TellsWords}
 use Rattle.dispatch.specs.Racing.{EndsRace}
 use Rattle.dispatch.proofs.Asked.{is_not}
 use Rattle.script_reader.specs.declared.fault.Fault.TheVariants as faults

@@ -5,10 +5,10 @@ use Rattle.std.specs.Io.KnownBytes.{Appends}
 use Rattle.std.proofs.KnownBytes.{Appends-trans}
 use Rattle.pump_frame.specs.Counts.{Rose}
 use Rattle.recovery.specs.declared.why.Why.{Why}
-use Rattle.commands.specs.CommandEnds.{end_status, end_line, Closes}
+use Rattle.command_ends.specs.CommandEnds.{end_status, end_line, Closes}
 use Rattle.dispatch.specs.LiveEnds.{IsNoDiskEnd}
-use Rattle.commands.specs.declared.command_end.CommandEnd.{CommandEnd}
-use Rattle.commands.specs.declared.command_end.CommandEnd.TheVariants.{Memory, Unread, Failed, Refused, Unconnected, Unwritten}
+use Rattle.command_ends.specs.declared.command_end.CommandEnd.{CommandEnd}
+use Rattle.command_ends.specs.declared.command_end.CommandEnd.TheVariants.{Memory, Unread, Failed, Refused, Unconnected, Unwritten}
 
 -- ---- the ends with a status of their own ----
 

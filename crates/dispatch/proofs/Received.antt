@@ -13,11 +13,11 @@ use Rattle.peers.specs.Outputs.{Counts}
 use Rattle.peers.specs.Receiving.{Place, Reception, Receives}
 use Rattle.peers.specs.declared.receive.ReceiveEnd.{ReceiveEnd}
 use Rattle.serving.specs.Doors.{LinksTell}
-use Rattle.commands.specs.CommandEnds.{NamesFailed}
+use Rattle.command_ends.specs.CommandEnds.{NamesFailed}
 use Rattle.commands.specs.LentDisks.{LeavesOtherDisks}
 use Rattle.dispatch.specs.Receptions.{ReceivesOver, ReceivesFor, ReceiveComes}
-use Rattle.commands.specs.Tables.{HasRow}
-use Rattle.commands.specs.declared.command_end.CommandEnd.{CommandEnd}
+use Rattle.command_ends.specs.Tables.{HasRow}
+use Rattle.command_ends.specs.declared.command_end.CommandEnd.{CommandEnd}
 
 module _ {D L : Type 0} (t : LinksTell L) (looks : ℕ) (ports now_ports : List (PortsStep L D) → Type 0) (written : Option (List ℕ)) (out_faults : ℕ) where
   -- what holds of the readings of the disk in hand holds of those on the shelf

@@ -18,7 +18,7 @@ use Rattle.dispatch.specs.LiveEnds.{IsNoDiskEnd}
 use Rattle.dispatch.specs.Receptions.{end_of_receiver}
 use Rattle.dispatch.specs.Sendings.{end_of_sender}
 use Rattle.commands.specs.Showing.{end_at}
-use Rattle.commands.specs.declared.command_end.CommandEnd.TheVariants.{Memory, Unread, Failed, Unwritten, Unconnected}
+use Rattle.command_ends.specs.declared.command_end.CommandEnd.TheVariants.{Memory, Unread, Failed, Unwritten, Unconnected}
 
 -- ---- the sender ----
 

@@ -24,11 +24,11 @@ use Rattle.serving.specs.Sessions.{IfEnded, OpensBy, RoseAt, has_run}
 use Rattle.serving.specs.declared.doors.WorkersEnd.{WorkersEnd}
 use Rattle.serving.specs.declared.session.SessionEnd.{SessionEnd}
 use Rattle.serving.specs.declared.session.SessionEnd.TheVariants as session_ends
-use Rattle.commands.specs.CommandEnds.{NamesFailed}
+use Rattle.command_ends.specs.CommandEnds.{NamesFailed}
 use Rattle.commands.specs.LentDisks.{LeavesBut}
 use Rattle.dispatch.specs.Servings.{DisksTell, FileTells, SourceTells, StopsAtShelf, GivesRow, end_of_workers, end_of_session, ServesFor, ServeComes}
-use Rattle.commands.specs.declared.command_end.CommandEnd.{CommandEnd}
-use Rattle.commands.specs.declared.command_end.CommandEnd.TheVariants.{Memory, Unread, Failed, Unwritten, Unconnected}
+use Rattle.command_ends.specs.declared.command_end.CommandEnd.{CommandEnd}
+use Rattle.command_ends.specs.declared.command_end.CommandEnd.TheVariants.{Memory, Unread, Failed, Unwritten, Unconnected}
 use Rattle.commands.proofs.LentDisks.{rises_back}
 use Rattle.dispatch.proofs.Sent.{refused_device, refused_never, refused_role}
 

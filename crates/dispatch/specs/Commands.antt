@@ -1,13 +1,9 @@
--- Which commands `batch` runs and which `live` does, and what is written where the words are none.
+-- Which commands `batch` runs and which `live` does.
 use Rattle.std.specs.Prelude.{◌≡◌, ◌⊎◌, ℕ, Bool, true, false, List, [], ◌∷◌, Option, codes}
-use Rattle.std.specs.Io.KnownBytes.{Appends}
 use Rattle.command_line.specs.Commands.{AreWordsOf}
 use Rattle.command_line.specs.declared.command.Command.{Command}
 use Rattle.command_line.specs.declared.command.Command.TheVariants.{Race, Serve, Receive, Send, Append, Wrap, Messages}
-use Rattle.command_line.specs.declared.command.Command.TheVariants.{Status}
-use Rattle.pump_link.specs.Causes.{AppendsPrefix}
-use Rattle.script_reader.specs.Transcript.{fault_line}
-use Rattle.script_reader.specs.declared.fault.Fault.TheVariants as faults
+use Rattle.command_line.specs.declared.command.Command.TheVariants.{Status, DropFiles, CollectFiles}
 
 -- the words of the command "replay"
 abbrev pub IsReplay : List (List ℕ) → Type 0
@@ -37,7 +33,7 @@ abbrev pub IsBeside : List (List ℕ) → Type 0
 IsBeside words = ((table : List ℕ) × (session : ℕ) × (from : ℕ) × AreWordsOf words (Messages table session from))
     ⊎ ((table : List ℕ) × (session : ℕ) × AreWordsOf words (Status table session))
 
--- a command with threads or over a socket is for `live`, every other one for `batch`
+-- a command with threads or over a socket is for `live`
 abbrev pub is_live : Command → Bool
 is_live (Race seed count times) = true
 is_live (Serve table session looks) = true
@@ -46,9 +42,20 @@ is_live (Send table session looks) = true
 is_live (Append table session looks) = true
 is_live _ = false
 
+-- one that needs neither, nor a folder of files, is for `batch`
+abbrev pub is_batch : Command → Bool
+is_batch (Race seed count times) = false
+is_batch (Serve table session looks) = false
+is_batch (Receive table session looks) = false
+is_batch (Send table session looks) = false
+is_batch (Append table session looks) = false
+is_batch (DropFiles table session looks folder) = false
+is_batch (CollectFiles table session looks folder) = false
+is_batch _ = true
+
 -- the words are no command that `batch` runs
 abbrev pub IsNoCommand : List (List ℕ) → Type 0
-IsNoCommand words = (c : Command) → is_live c ≡ false → AreWordsOf words c → ⊥
+IsNoCommand words = (c : Command) → is_batch c ≡ true → AreWordsOf words c → ⊥
 
 -- .. that `live` runs
 abbrev pub IsNoLiveCommand : List (List ℕ) → Type 0
@@ -85,14 +92,3 @@ IsAtHigh words = IsServe words ⊎ IsReceive words
 abbrev pub IsTimed : List (List ℕ) → Type 0
 IsTimed words = IsServe words ⊎ ((seed : ℕ) × (count : ℕ) × (times : List ℕ)
     × AreWordsOf words (Race seed count (record { items = times })))
-
--- what is written where the words are no command: with status 2 the fault, with status 4 a prefix of it, and nothing
--- else
-abbrev pub TellsWords : Option (List ℕ) → Option (List ℕ) → ℕ → Type 0
-TellsWords old new status =
-    ((status ≡ 2) × Appends old new (fault_line faults.Words))
-    ⊎ ((status ≡ 4) × AppendsPrefix old new (fault_line faults.Words))
-
--- then the fault is written, or a prefix of it; or nothing, where memory was wanting
-abbrev pub RefusesWords : Option (List ℕ) → Option (List ℕ) → ℕ → Type 0
-RefusesWords old new status = TellsWords old new status ⊎ ((status ≡ 1) × Appends old new [])

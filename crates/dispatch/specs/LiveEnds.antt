@@ -1,8 +1,8 @@
 -- How a command over links or doors ends.
 use Rattle.std.specs.Prelude.{◌≤◌, ℕ, List, Option}
-use Rattle.commands.specs.CommandEnds.{Closes}
-use Rattle.commands.specs.declared.command_end.CommandEnd.{CommandEnd}
-use Rattle.commands.specs.declared.command_end.CommandEnd.TheVariants.{Failed, Refused}
+use Rattle.command_ends.specs.CommandEnds.{Closes}
+use Rattle.command_ends.specs.declared.command_end.CommandEnd.{CommandEnd}
+use Rattle.command_ends.specs.declared.command_end.CommandEnd.TheVariants.{Failed, Refused}
 
 -- no disk is the cause
 abbrev pub IsNoDiskEnd : CommandEnd → Type 0

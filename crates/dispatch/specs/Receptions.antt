@@ -11,16 +11,16 @@ use Rattle.stable_buffer.specs.Format.{receiver_size}
 use Rattle.stable_buffer.specs.Log.{RecvStands}
 use Rattle.stable_buffer.specs.Register.{value_of}
 use Rattle.script_replay.specs.Shelves.{Places, disk_name, reading_at}
-use Rattle.commands.specs.CommandEnds.{NamesFailed}
+use Rattle.command_ends.specs.CommandEnds.{NamesFailed}
 use Rattle.commands.specs.LentDisks.{LeavesOtherDisks, StopsAtDisk}
 use Rattle.peers.specs.Receiving.{Place, Reception, Receives, StandsForPrefix, attempted, is_device, messages}
 use Rattle.peers.specs.declared.receive.ReceiveEnd.{ReceiveEnd}
 use Rattle.peers.specs.declared.receive.ReceiveEnd.TheVariants as receiver
 use Rattle.serving.specs.Doors.{LinksTell}
-use Rattle.commands.specs.Tables.{StopsAtTable, HasRow}
-use Rattle.commands.specs.declared.command_end.CommandEnd.{CommandEnd}
-use Rattle.commands.specs.declared.command_end.CommandEnd.TheVariants.{Done, Failed, Unwritten, Unconnected, Ahead}
-use Rattle.commands.specs.declared.command_end.CommandEnd.TheVariants.{Full}
+use Rattle.command_ends.specs.Tables.{StopsAtTable, HasRow}
+use Rattle.command_ends.specs.declared.command_end.CommandEnd.{CommandEnd}
+use Rattle.command_ends.specs.declared.command_end.CommandEnd.TheVariants.{Done, Failed, Unwritten, Unconnected, Ahead}
+use Rattle.command_ends.specs.declared.command_end.CommandEnd.TheVariants.{Full}
 
 -- how the call ends where the receiver ended so
 abbrev pub end_of_receiver : ReceiveEnd → CommandEnd

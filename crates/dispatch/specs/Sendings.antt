@@ -8,10 +8,10 @@ use Rattle.peers.specs.Sending.{Sending, Sends, all_looks, all_sent, all_printed
 use Rattle.peers.specs.declared.send.SendEnd.{SendEnd}
 use Rattle.peers.specs.declared.send.SendEnd.TheVariants as sender
 use Rattle.serving.specs.Doors.{LinksTell}
-use Rattle.commands.specs.Tables.{StopsAtFile, HasRow}
-use Rattle.commands.specs.declared.command_end.CommandEnd.{CommandEnd}
-use Rattle.commands.specs.declared.command_end.CommandEnd.TheVariants.{Done, Unread, Unwritten, BadLine, Unconnected}
-use Rattle.commands.specs.declared.command_end.CommandEnd.TheVariants.{Denied, Unfinished}
+use Rattle.command_ends.specs.Tables.{StopsAtFile, HasRow}
+use Rattle.command_ends.specs.declared.command_end.CommandEnd.{CommandEnd}
+use Rattle.command_ends.specs.declared.command_end.CommandEnd.TheVariants.{Done, Unread, Unwritten, BadLine, Unconnected}
+use Rattle.command_ends.specs.declared.command_end.CommandEnd.TheVariants.{Denied, Unfinished}
 
 -- how the call ends where the sender ended so
 abbrev pub end_of_sender : SendEnd → CommandEnd

@@ -18,13 +18,13 @@ use Rattle.serving.specs.Joined.{BothServed}
 use Rattle.serving.specs.Sessions.{IfEnded, OpensBy, has_run, is_opened}
 use Rattle.serving.specs.declared.session.SessionEnd.{SessionEnd}
 use Rattle.serving.specs.declared.session.SessionEnd.TheVariants as session_ends
-use Rattle.commands.specs.CommandEnds.{NamesFailed}
+use Rattle.command_ends.specs.CommandEnds.{NamesFailed}
 use Rattle.commands.specs.LentDisks.{LeavesBut}
-use Rattle.commands.specs.Tables.{IsTableEnd, StopsAtTable, HasRow}
+use Rattle.command_ends.specs.Tables.{IsTableEnd, StopsAtTable, HasRow}
 use Rattle.commands.specs.Showing.{end_at}
-use Rattle.commands.specs.declared.command_end.CommandEnd.{CommandEnd}
-use Rattle.commands.specs.declared.command_end.CommandEnd.TheVariants.{Done, Memory, Unread, Failed, Unwritten}
-use Rattle.commands.specs.declared.command_end.CommandEnd.TheVariants.{Unconnected}
+use Rattle.command_ends.specs.declared.command_end.CommandEnd.{CommandEnd}
+use Rattle.command_ends.specs.declared.command_end.CommandEnd.TheVariants.{Done, Memory, Unread, Failed, Unwritten}
+use Rattle.command_ends.specs.declared.command_end.CommandEnd.TheVariants.{Unconnected}
 
 -- how the call ends where the workers ended so: the record comes first, then the low disk, then the high one
 abbrev pub end_of_workers : RoundsEnd → RoundsEnd → CommandEnd

@@ -6,10 +6,10 @@ ghost use Rattle.pump_frame.specs.Counts.{Rose};
 ghost use Rattle.peers.specs.Appending.{link_tells};
 ghost use Rattle.dispatch.specs.Appendings.{end_of_appender, is_write, AppendsFor, AppendComes, TellsEnd};
 ghost use Rattle.dispatch.specs.LiveEnds.{EndsLive, IsNoDiskEnd};
-ghost use Rattle.commands.specs.declared.command_end.CommandEnd.TheVariants as ends;
+ghost use Rattle.command_ends.specs.declared.command_end.CommandEnd.TheVariants as ends;
 
+use command_ends::{CommandEnd, finish, row_in_file};
 use command_line::TableName;
-use commands::{CommandEnd, finish, row_in_file};
 use disk_model::Shelf;
 use peers::{AppendEnd, Appended, append_with, print_appended};
 use pump_frame::SessionRow;

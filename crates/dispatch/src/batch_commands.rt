@@ -1,6 +1,6 @@
 //! The commands that run to their end over a shelf, a script and the output alone.
 
-ghost use Rattle.std.specs.Prelude.{◌≡◌, ℕ, ◌≤◌, ◌⊎◌, false, List, [], map, string_bytes, IfSome};
+ghost use Rattle.std.specs.Prelude.{◌≡◌, ℕ, ◌≤◌, ◌⊎◌, true, List, [], map, string_bytes, IfSome};
 ghost use Rattle.command_line.specs.Commands.{AreWordsOf};
 ghost use Rattle.command_line.specs.declared.command.Command.{Command as Asked};
 ghost use Rattle.command_line.specs.declared.command.Command.TheVariants as commands;
@@ -11,9 +11,9 @@ ghost use Rattle.script_replay.specs.Failing.{FailsAt};
 ghost use Rattle.script_replay.specs.Replays.{IsFailed, Wrote};
 ghost use Rattle.script_replay.specs.Shelves.{AllAreBack, shelved};
 ghost use Rattle.script_replay.specs.Told.{TellsFault};
-ghost use Rattle.commands.specs.CommandEnds.{EndsWithStatus};
-ghost use Rattle.dispatch.specs.Commands.{is_live, IsNoCommand, IsReplay, IsChain, IsWrap, IsAudit, IsBeside};
-ghost use Rattle.dispatch.specs.Commands.{IsCompare, ReadsScript, TellsWords, RefusesWords};
+ghost use Rattle.command_ends.specs.CommandEnds.{EndsWithStatus, RefusesWords};
+ghost use Rattle.dispatch.specs.Commands.{is_batch, IsNoCommand, IsReplay, IsChain, IsWrap, IsAudit, IsBeside};
+ghost use Rattle.dispatch.specs.Commands.{IsCompare, ReadsScript};
 ghost use Rattle.commands.specs.Auditing.{EndsAudit, EndsComparison};
 ghost use Rattle.exercises.specs.Exercises.{EndsExercise};
 ghost use Rattle.commands.specs.Formatting.{Formats};
@@ -28,8 +28,8 @@ ghost use Rattle.commands.specs.Wrapping.{EndsWrap};
 ghost use Rattle.disk_model.specs.declared.name.Role.TheVariants.{Recv};
 ghost use Rattle.dispatch.specs.Chains.{EndsChainWith};
 
-use arrayvec::ArrayVec;
 use chain_replay::replay_chain;
+use command_ends::refuse_words;
 use command_line::{Command, WordsFault, command_of};
 use commands::{
     audit_script, compare_script, format_session, migrate_session, print_messages, show_session,
@@ -37,23 +37,9 @@ use commands::{
 };
 use disk_model::Shelf;
 use exercises::exercise;
-use pump_link::{Sink, Source, write_all};
-use script_reader::{Fault, append_fault};
+use pump_link::{Sink, Source};
 use script_replay::{Ended, replay};
 use std::alloc::Global;
-
-/// Answers words that are no command which is run. The fault is all that is written.
-pub fn refuse_words<O: Sink>(out: &mut O) -> u8
-    ensures told { TellsWords (O.written out.old) (O.written out.new) result }
-    ensures cause { result ≡ 4 → Rose (O.faults out.old) (O.faults out.new) }
-{
-    let mut line: ArrayVec<u8, 256> = ArrayVec::new();
-    append_fault(&Fault::Words, &mut line);
-    match write_all(out, line.as_slice()) {
-        Ok(()) => 2,
-        Err(_) => 4,
-    }
-}
 
 /// The status of an exercise.
 fn run_exercise<O: Sink>(alloc: Global, seed: u32, count: u32, out: &mut O) -> u8
@@ -72,7 +58,8 @@ fn run_exercise<O: Sink>(alloc: Global, seed: u32, count: u32, out: &mut O) -> u
 }
 
 /// Runs the command that the words are, over the shelf, the script and the output. A command with threads
-/// or over a socket is for `live`, and none of those that run here. The answer is the status of the program:
+/// or over a socket is for `live`, one that carries files from folder to folder for `transfer`, and none of
+/// those run here. The answer is the status of the program:
 ///
 /// - 0: the command was done, and what it prints was written; a replay read the script to its end.
 /// - 1: there was not enough memory; nothing was written. After a replay each disk reads as it did, or it was
@@ -119,7 +106,7 @@ pub fn batch<S: Shelf, I: Source, O: Sink>(
         × (shelf.new ≡ shelf.old) }
     ensures words { IsNoCommand (map string_bytes words.now.items)
         → RefusesWords (O.written out.old) (O.written out.new) result }
-    ensures known { (c : Asked) → is_live c ≡ false → AreWordsOf (map string_bytes words.now.items) c
+    ensures known { (c : Asked) → is_batch c ≡ true → AreWordsOf (map string_bytes words.now.items) c
         → (result ≡ 2 → ⊥) }
     // Only a replay, of one pump's script or of two, the commands over records and the sending of a
     // file read the script.
@@ -264,7 +251,9 @@ pub fn batch<S: Shelf, I: Source, O: Sink>(
         | Command::Serve { .. }
         | Command::Receive { .. }
         | Command::Send { .. }
-        | Command::Append { .. } => return refuse_words(out),
+        | Command::Append { .. }
+        | Command::DropFiles { .. }
+        | Command::CollectFiles { .. } => return refuse_words(out),
     }
     replay(alloc, shelf, script, out)
 }

@@ -8,6 +8,7 @@ ghost use Rattle.command_line.specs.declared.command.Command.TheVariants as comm
 ghost use Rattle.command_line.specs.TimeLists.{AreTimes};
 ghost use Rattle.pump_frame.specs.Counts.{Rose};
 ghost use Rattle.relay_side.specs.Sides.{side};
+ghost use Rattle.command_ends.specs.CommandEnds.{RefusesWords};
 ghost use Rattle.commands.specs.LentDisks.{RecvFailsAt};
 ghost use Rattle.script_replay.specs.Failing.{FailsAt};
 ghost use Rattle.script_replay.specs.Shelves.{AllAreBack};
@@ -15,7 +16,7 @@ ghost use Rattle.peers.specs.Appending.{link_tells};
 ghost use Rattle.serving.specs.Doors.{doors, links};
 ghost use Rattle.dispatch.specs.Appendings.{AppendComes};
 ghost use Rattle.dispatch.specs.Commands.{is_live, IsNoLiveCommand, IsAtHigh, IsAtLow, IsOverTable, IsSender, IsServe};
-ghost use Rattle.dispatch.specs.Commands.{IsTimed, RefusesWords};
+ghost use Rattle.dispatch.specs.Commands.{IsTimed};
 ghost use Rattle.dispatch.specs.LiveEnds.{EndsLive};
 ghost use Rattle.dispatch.specs.Racing.{IsRecordOf, EndsRace};
 ghost use Rattle.dispatch.specs.Receptions.{ReceiveComes};
@@ -23,10 +24,10 @@ ghost use Rattle.dispatch.specs.Sendings.{SendComes};
 ghost use Rattle.dispatch.specs.Servings.{disks, file, source, ServeComes};
 
 use crate::append::append_session;
-use crate::batch_commands::refuse_words;
 use crate::receive::receive_session;
 use crate::send::send_session;
 use crate::serve::serve_table;
+use command_ends::refuse_words;
 use command_line::{Command, WordsFault, command_of};
 use disk_model::Shelf;
 use pump_link::{Clock, Ports, Sink, Source};

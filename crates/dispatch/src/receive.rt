@@ -13,10 +13,11 @@ ghost use Rattle.serving.specs.Doors.{links};
 ghost use Rattle.commands.specs.LentDisks.{LeavesOtherDisks, RecvFailsAt};
 ghost use Rattle.dispatch.specs.LiveEnds.{EndsLive};
 ghost use Rattle.dispatch.specs.Receptions.{end_of_receiver, ReceivesOver, ReceivesFor, ReceiveComes};
-ghost use Rattle.commands.specs.declared.command_end.CommandEnd.TheVariants as ends;
+ghost use Rattle.command_ends.specs.declared.command_end.CommandEnd.TheVariants as ends;
 
+use command_ends::{CommandEnd, finish, row_in_file};
 use command_line::TableName;
-use commands::{CommandEnd, end_at, finish, row_in_file, untaken};
+use commands::{end_at, untaken};
 use disk_model::{Disk, Role, Shelf};
 use high_receiver::Receiver;
 use peers::{ReceiveEnd, receive_with};

@@ -13,10 +13,11 @@ ghost use Rattle.dispatch.specs.LiveEnds.{EndsLive};
 ghost use Rattle.commands.specs.LentDisks.{LeavesBut};
 ghost use Rattle.dispatch.specs.Servings.{disks, file, source, end_of_workers, end_of_session, ServesWith, ServesFor};
 ghost use Rattle.dispatch.specs.Servings.{ServeComes};
-ghost use Rattle.commands.specs.declared.command_end.CommandEnd.TheVariants as ends;
+ghost use Rattle.command_ends.specs.declared.command_end.CommandEnd.TheVariants as ends;
 
+use command_ends::{CommandEnd, finish, row_in_file};
 use command_line::TableName;
-use commands::{CommandEnd, end_at, finish, put_pair_back, row_in_file, take_pair, untaken};
+use commands::{end_at, put_pair_back, take_pair, untaken};
 use disk_model::{Role, Shelf};
 use pump_frame::SessionRow;
 use pump_link::{Clock, Ports, Sink, Source};

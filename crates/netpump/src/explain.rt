@@ -2,6 +2,7 @@
 
 mod appending;
 mod auditing;
+mod carrying;
 mod disks;
 mod files;
 mod link;
@@ -13,6 +14,7 @@ mod wrapping;
 
 use appending::explain_append;
 use auditing::{explain_audit, explain_difference, explain_unpaired};
+use carrying::explain_transfer;
 use disks::explain_refusal;
 use files::{explain_disk_file, explain_table_file, explain_unread_disk, table_bytes};
 pub use link::row;
@@ -41,6 +43,8 @@ pub enum Trouble {
     LowPort,
     /// Those of the high side did.
     HighPort,
+    /// A call on the folder failed, for this reason.
+    Folder(ErrorKind),
     /// No file failed: a line of the script told so, or something else was read.
     Told,
 }
@@ -200,6 +204,9 @@ pub fn explain(rt: &HostRuntime, words: &[String], ending: &Ending<'_>) -> io::R
         2 => explain_words(rt, words),
         3 => explain_unread(rt, words, trouble),
         4 => explain_unwritten(rt, words),
+        6..=8 | 10..=14 if matches!(word(words, 0), Some("drop" | "collect")) => {
+            explain_transfer(rt, words, ending)
+        }
         5 | 10 | 11 | 12 if word(words, 0) == Some("append") => {
             explain_append(rt, words, status, last)
         }

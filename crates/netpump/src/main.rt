@@ -5,8 +5,8 @@ mod door_log;
 mod explain;
 
 use adapters::{
-    Access, Counted, FileShelf, KeySource, ShownSource, StdSink, StdSource, TcpPorts, Traffic,
-    machine_side, now, stepping_side,
+    Access, Counted, FileFolders, FileShelf, FolderNotes, KeySource, ShownSource, StdSink,
+    StdSource, TcpPorts, Traffic, machine_side, now, stepping_side,
 };
 use disk_model::Shelf;
 use dispatch::{batch, live};
@@ -16,7 +16,7 @@ use pump_frame::SessionRow;
 use pump_link::{Clock, Ports, Sink, Source};
 use relay_side::RelaySide;
 use relay_threads::Watch;
-use std::alloc::Global;
+use std::alloc::{Alloc, Global};
 use std::fs::{File, Files};
 use std::io::{self, IsTerminal};
 use std::net::{Net, TcpListener, TcpStream};
@@ -24,6 +24,7 @@ use std::process::ExitCode;
 use std::sync::Wait;
 use std::thread::Threads;
 use std::{env, time};
+use transfer::transfer;
 
 /// The words after the program's name.
 fn words(rt: &HostRuntime) -> io::Result<Vec<String>> {
@@ -44,6 +45,11 @@ fn is_live(words: &[String]) -> bool {
     ["race", "serve", "receive", "send", "append"]
         .iter()
         .any(|name| begin_with(words, name))
+}
+
+/// Does the first word name a command over folders?
+fn is_transfer(words: &[String]) -> bool {
+    begin_with(words, "drop") || begin_with(words, "collect")
 }
 
 /// What the command does with disks.
@@ -67,10 +73,12 @@ fn served_row(rt: &HostRuntime, words: &[String]) -> Option<SessionRow> {
 #[derive(Clone, Copy)]
 struct Came {
     status: u8,
-    /// The ports that failed, if some did.
-    port: Option<Trouble>,
+    /// The ports that failed, if some did, or the folder.
+    trouble: Option<Trouble>,
     /// Whether a connection came to an end.
     has_ended: bool,
+    /// How many files were left lying in the folder.
+    lying: u64,
 }
 
 impl Came {
@@ -78,8 +86,9 @@ impl Came {
     fn alone(status: u8) -> Came {
         Came {
             status,
-            port: None,
+            trouble: None,
             has_ended: false,
+            lying: 0,
         }
     }
 }
@@ -159,8 +168,39 @@ where
     };
     Came {
         status,
-        port,
+        trouble: port,
         has_ended: at_low.has_ended() || at_high.has_ended(),
+        lying: 0,
+    }
+}
+
+/// Runs the command over folders that the words are.
+fn run_transfer<
+    R: Wait
+        + Net<Listener = TcpListener, Stream = TcpStream>
+        + Files<File = File>
+        + Alloc
+        + time::Clock,
+    S: Shelf,
+    O: Sink,
+>(rt: &R, alloc: Global, words: &Vec<String>, shelf: &mut S, out: &mut O) -> Came {
+    let notes = FolderNotes::new();
+    let mut folders = FileFolders::new(rt, &notes);
+    let mut traffic = Traffic::new();
+    let RelaySide { mut ports, .. } = machine_side(alloc, rt, now(rt), &mut traffic);
+    let status = transfer(alloc, words, shelf, &mut folders, &mut ports, out);
+    let trouble = if ports.faults() == 0 {
+        notes.why().map(Trouble::Folder)
+    } else if begin_with(words.as_slice(), "drop") {
+        Some(Trouble::LowPort)
+    } else {
+        Some(Trouble::HighPort)
+    };
+    Came {
+        status,
+        trouble,
+        has_ended: false,
+        lying: notes.lying(),
     }
 }
 
@@ -209,6 +249,8 @@ fn main(rt: HostRuntime) -> ExitCode {
             &mut out,
             &log,
         )
+    } else if is_transfer(words.as_slice()) {
+        run_transfer(&rt, rt.alloc(), &words, &mut shelf, &mut out)
     } else {
         let (script, out) = (script.inner_mut(), out.inner_mut());
         Came::alone(batch(rt.alloc(), &words, &mut shelf, script, out))
@@ -217,11 +259,12 @@ fn main(rt: HostRuntime) -> ExitCode {
     let ending = Ending {
         status: came.status,
         last: out.inner().last(),
-        trouble: came.port.unwrap_or(trouble_of(&shelf)),
+        trouble: came.trouble.unwrap_or(trouble_of(&shelf)),
         passed: Passed {
             read: script.lines(),
             written: out.lines(),
             has_ended: came.has_ended,
+            lying: came.lying,
         },
     };
     // The status tells it too, where standard error can't be written.

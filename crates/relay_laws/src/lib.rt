@@ -3,4 +3,4 @@
 
 mod laws;
 
-pub use laws::receivers_of_a_relay_hold_a_prefix;
+pub use laws::{files_are_carried, receivers_of_a_relay_hold_a_prefix};

@@ -48,6 +48,10 @@ pub fn explain_unwritten(rt: &HostRuntime, words: &[String]) -> io::Result<()> {
             "append with no input, to be told which message is next, and then the lines from that one on"
         }
         Some("send") => "send all lines again: those that are stored are passed over",
+        Some("drop") => "drop again, which goes on where this ended",
+        Some("collect") => {
+            "collect again, which goes on where this ended. What is shown is kept, and its line is not printed again"
+        }
         Some("receive") => {
             "receive again. The message whose line could not be written is kept, and its line is not printed again"
         }

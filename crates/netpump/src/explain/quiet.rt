@@ -1,14 +1,17 @@
-//! What a sender or a receiver is told where its status says nothing.
+//! What is told where a command did what it is for and left something out.
 
+use super::carrying::tell_lying;
 use super::word;
 use std::io;
 
-/// How many lines a command over a socket read and wrote, and whether its connection came to an end.
+/// How many lines a command over a socket read and wrote, whether its connection came to an end, and how many
+/// files it left lying.
 #[derive(Clone, Copy, Default)]
 pub struct Passed {
     pub read: u64,
     pub written: u64,
     pub has_ended: bool,
+    pub lying: u64,
 }
 
 /// Lines that were passed over: their messages were accepted before.
@@ -48,6 +51,7 @@ pub fn tell_left_out(rt: &HostRuntime, words: &[String], passed: Passed) -> io::
     match word(words, 0) {
         Some("send") => tell_passed_over(rt, passed),
         Some("receive") => tell_nothing_came(rt, words, passed),
+        Some("drop") => tell_lying(rt, words, passed.lying),
         _ => Ok(()),
     }
 }

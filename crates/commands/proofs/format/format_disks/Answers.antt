@@ -1,5 +1,5 @@
 use Rattle.std.proofs.Common.{◌≡◌, inr}
-use Rattle.commands.specs.declared.command_end.CommandEnd.TheVariants.{Failed}
+use Rattle.command_ends.specs.declared.command_end.CommandEnd.TheVariants.{Failed}
 use Rattle.commands.proofs.Failing.{came_back, untaken_names}
 use Rattle.commands.proofs.Formatted.{on_ok, if_err, formatted_so, stops_so, rises_so, failed_at, disk_end}
 use Rattle.script_replay.proofs.Shelving.{rose_more}

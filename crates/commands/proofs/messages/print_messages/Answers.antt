@@ -3,8 +3,8 @@ use Rattle.disk_model.specs.declared.name.Role.TheVariants.{Recv}
 use Rattle.high_receiver.specs.Receiving.{recv_disk, recv_row}
 use Rattle.commands.specs.Messages.{HasLog, PrintsMessages}
 use Rattle.commands.specs.ReadDisks.{disk_file}
-use Rattle.commands.specs.declared.command_end.CommandEnd.TheVariants as ends
-use Rattle.commands.proofs.CommandEnds.{ends_so, done_not_failed, done_not_unread, done_unwritten, done_status}
+use Rattle.command_ends.specs.declared.command_end.CommandEnd.TheVariants as ends
+use Rattle.command_ends.proofs.CommandEnds.{ends_so, done_not_failed, done_not_unread, done_unwritten, done_status}
 use Rattle.commands.proofs.messages.print_messages.Goals as goal
 
 pub returns-in-Ok-clause-ends : goal.returns-in-Ok-clause-ends

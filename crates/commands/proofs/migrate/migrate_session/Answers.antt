@@ -1,8 +1,8 @@
 use Rattle.std.proofs.Common.{List, ℕ, sym, ◌∙◌, subst}
 use Rattle.commands.specs.Migrating.{Migrates}
-use Rattle.commands.specs.declared.command_end.CommandEnd.TheVariants as ends
+use Rattle.command_ends.specs.declared.command_end.CommandEnd.TheVariants as ends
 use Rattle.script_replay.specs.Failing.{FailsAt}
-use Rattle.commands.proofs.CommandEnds.{ends_so, closed_end}
+use Rattle.command_ends.proofs.CommandEnds.{ends_so, closed_end}
 use Rattle.commands.proofs.migrate.migrate_session.Goals as goal
 
 pub returns-in-Ok-clause-ends : goal.returns-in-Ok-clause-ends

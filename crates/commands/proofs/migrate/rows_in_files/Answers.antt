@@ -1,5 +1,5 @@
 use Rattle.std.proofs.Common.{List, ℕ, Option, subst}
-use Rattle.commands.specs.Tables.{HasRow}
+use Rattle.command_ends.specs.Tables.{HasRow}
 use Rattle.commands.proofs.Migrated.{same_session}
 use Rattle.commands.proofs.migrate.rows_in_files.Goals as goal
 

@@ -1,7 +1,7 @@
 use Rattle.std.proofs.Common.{◌≡◌, inr, sym, ◌∙◌, subst}
 use Rattle.commands.specs.Showing.{ShowStops}
-use Rattle.commands.specs.declared.command_end.CommandEnd.{CommandEnd}
-use Rattle.commands.specs.declared.command_end.CommandEnd.TheVariants as ends
+use Rattle.command_ends.specs.declared.command_end.CommandEnd.{CommandEnd}
+use Rattle.command_ends.specs.declared.command_end.CommandEnd.TheVariants as ends
 use Rattle.commands.proofs.Formatted.{if_err, rises_so}
 use Rattle.script_replay.proofs.Shelving.{rose_more}
 use Rattle.commands.proofs.Failing.{came_back, untaken_names}

@@ -1,5 +1,5 @@
 use Rattle.std.proofs.Common.{List, ℕ, subst}
-use Rattle.commands.specs.Tables.{HasRow}
+use Rattle.command_ends.specs.Tables.{HasRow}
 use Rattle.script_replay.specs.Failing.{FailsAt}
 use Rattle.commands.proofs.Failing.{fails_later}
 use Rattle.commands.proofs.Shown.{shows_so}

@@ -1,7 +1,7 @@
 use Rattle.std.proofs.Common.{List, ℕ, Err, sym, ap, subst}
 use Rattle.commands.specs.Showing.{Shows}
-use Rattle.commands.specs.declared.command_end.CommandEnd.TheVariants as ends
-use Rattle.commands.proofs.CommandEnds.{ends_so, closed_end}
+use Rattle.command_ends.specs.declared.command_end.CommandEnd.TheVariants as ends
+use Rattle.command_ends.proofs.CommandEnds.{ends_so, closed_end}
 use Rattle.script_replay.specs.Failing.{FailsAt}
 use Rattle.commands.proofs.show.show_session.Goals as goal
 

@@ -2,7 +2,7 @@ use Rattle.std.proofs.Common.{◌≡◌, ℕ, List, Option, subst, arith}
 use Rattle.std.proofs.lemmas.Result.{IfErr-weaker}
 use Rattle.pump_frame.specs.Counts.{Rose}
 use Rattle.commands.specs.ReadDisks.{disk_file}
-use Rattle.commands.specs.Tables.{HasRow}
+use Rattle.command_ends.specs.Tables.{HasRow}
 use Rattle.commands.specs.Telling.{StopsTelling}
 use Rattle.commands.proofs.Failing.{rose_within}
 use Rattle.commands.proofs.Told.{stops_told}

@@ -2,8 +2,8 @@ use Rattle.std.proofs.Common.{List, ℕ, Err, sym, ap, subst}
 use Rattle.pump_frame.specs.Counts.{Rose}
 use Rattle.commands.specs.ReadDisks.{disk_file}
 use Rattle.commands.specs.Telling.{TellsStatus}
-use Rattle.commands.specs.declared.command_end.CommandEnd.TheVariants as ends
-use Rattle.commands.proofs.CommandEnds.{ends_so, closed_end}
+use Rattle.command_ends.specs.declared.command_end.CommandEnd.TheVariants as ends
+use Rattle.command_ends.proofs.CommandEnds.{ends_so, closed_end}
 use Rattle.commands.proofs.status.tell_status.Goals as goal
 
 pub returns-in-Ok-clause-ends : goal.returns-in-Ok-clause-ends

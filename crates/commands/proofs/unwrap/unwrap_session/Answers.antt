@@ -1,12 +1,12 @@
 use Rattle.std.proofs.Common.{ℕ, List, Err, inl, refl, ap, subst}
 use Rattle.std.proofs.KnownBytes.{Appends-nil}
 use Rattle.commands.specs.LentDisks.{RecvFailsAt}
-use Rattle.commands.specs.Tables.{HasRow, IsRowOf, IsTableEnd}
-use Rattle.commands.specs.declared.command_end.CommandEnd.{CommandEnd}
+use Rattle.command_ends.specs.Tables.{HasRow, IsRowOf, IsTableEnd}
+use Rattle.command_ends.specs.declared.command_end.CommandEnd.{CommandEnd}
 use Rattle.script_replay.specs.Shelves.{Places, reading_in}
-use Rattle.commands.proofs.CommandEnds.{names_failed}
+use Rattle.command_ends.proofs.CommandEnds.{names_failed}
 use Rattle.commands.proofs.Failing.{recv_fails_later}
-use Rattle.commands.proofs.TableRows.{stops_at_table}
+use Rattle.command_ends.proofs.TableRows.{stops_at_table}
 use Rattle.commands.proofs.Unwrapped.{names_failed_disk, stopped_end, unwraps_row}
 use Rattle.commands.proofs.unwrap.unwrap_session.Goals as goal
 

@@ -1,9 +1,9 @@
 use Rattle.std.proofs.Common.{ℕ, List, Err, inl, refl, subst}
-use Rattle.commands.specs.Tables.{HasRow, IsRowOf, IsTableEnd}
-use Rattle.commands.specs.declared.command_end.CommandEnd.{CommandEnd}
+use Rattle.command_ends.specs.Tables.{HasRow, IsRowOf, IsTableEnd}
+use Rattle.command_ends.specs.declared.command_end.CommandEnd.{CommandEnd}
 use Rattle.script_replay.specs.Failing.{FailsAt}
 use Rattle.commands.proofs.Failing.{fails_later}
-use Rattle.commands.proofs.TableRows.{stops_at_file}
+use Rattle.command_ends.proofs.TableRows.{stops_at_file}
 use Rattle.commands.proofs.Wrapped.{stopped_end, wraps_row}
 use Rattle.commands.proofs.wrap.wrap_in_table.Goals as goal
 

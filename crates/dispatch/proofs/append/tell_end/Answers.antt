@@ -1,7 +1,7 @@
 use Rattle.std.proofs.Common.{inl, inr, sym, ◌∙◌, subst}
 use Rattle.dispatch.specs.Appendings.{TellsEnd}
 use Rattle.dispatch.specs.LiveEnds.{IsNoDiskEnd}
-use Rattle.commands.specs.declared.command_end.CommandEnd.{CommandEnd}
+use Rattle.command_ends.specs.declared.command_end.CommandEnd.{CommandEnd}
 use Rattle.dispatch.proofs.Appended.{it_was_write, told, cut, untold, was_read, was_write, had_memory, had_link, no_disk}
 use Rattle.dispatch.proofs.append.tell_end.Goals as goal
 

@@ -1,7 +1,8 @@
 -- Each return is answered whole: most clauses speak of another command than the one that the words are.
 use Rattle.std.proofs.Common.{rules, inl, inr, refl, sym, subst}
 use Rattle.command_line.specs.declared.command.Command.TheVariants as commands
-use Rattle.dispatch.proofs.Asked.{asks, asks_none, live_alone, live_one, is_not, other, not_wrap, not_script, not_beside, never_wrap, never_script, never_beside, messages_asked, messages_nothing, tells_asked, tells_nothing, formats_asked, formats_nothing, shows_asked, shows_nothing, migrates_asked, migrates_nothing, wraps_asked, wraps_nothing, unwraps_asked, unwraps_nothing, exercise_asked}
+use Rattle.command_line.proofs.Asked.{asks}
+use Rattle.dispatch.proofs.Asked.{asks_none, elsewhere_alone, elsewhere_one, is_not, other, not_wrap, not_script, not_beside, never_wrap, never_script, never_beside, messages_asked, messages_nothing, tells_asked, tells_nothing, formats_asked, formats_nothing, shows_asked, shows_nothing, migrates_asked, migrates_nothing, wraps_asked, wraps_nothing, unwraps_asked, unwraps_nothing, exercise_asked}
 use Rattle.dispatch.proofs.Caused.{end_causes, unwrap_causes, send_causes, chain_causes, told_not, exercise_not, audit_not, compare_not, end_in, unwrap_in, send_in, replay_in, told_in, exercise_in, audit_in, compare_in}
 use Rattle.commands.specs.LentDisks.{RecvFailsAt}
 use Rattle.script_replay.specs.Failing.{FailsAt}
@@ -464,7 +465,7 @@ returns-in-Err-NoCommand g c =
 
 pub returns-in-Race : goal.returns-in-Race
 returns-in-Race g c =
-    let none = live_alone _ c.in-Ok.asked (live_one c.in-Ok.asked c.in-Race.is) (asks _ _ c.in-Ok.asked c.in-Ok.asked c.as_slice.ensures.value c.in-Ok.ensures.found c.in-Ok.ensures.command refl) in
+    let none = elsewhere_alone _ c.in-Ok.asked (elsewhere_one c.in-Ok.asked c.in-Race.is) (asks _ _ c.in-Ok.asked c.in-Ok.asked c.as_slice.ensures.value c.in-Ok.ensures.found c.in-Ok.ensures.command refl) in
     let told = c.refuse_words-in-Race.ensures.told in
     record {
       untouched = λ words. (refl, refl);

@@ -13,9 +13,10 @@ use Rattle.dispatch.specs.Racing.{IsRecordOf, EndsRace}
 use Rattle.dispatch.specs.Receptions.{ReceiveComes}
 use Rattle.dispatch.specs.Sendings.{SendComes}
 use Rattle.dispatch.specs.Servings.{disks, file, source, ServeComes}
-use Rattle.dispatch.proofs.Asked.{asks, asks_no_live, batch_alone, is_not, not_live, other, race_asked, serve_asked, receive_asked, send_asked, append_asked}
+use Rattle.command_line.proofs.Asked.{asks}
+use Rattle.dispatch.proofs.Asked.{asks_no_live, batch_alone, is_not, not_live, other, race_asked, serve_asked, receive_asked, send_asked, append_asked}
 use Rattle.dispatch.proofs.Caused.{told_not, exercise_not, race_memory}
-use Rattle.commands.specs.declared.command_end.CommandEnd.TheVariants as ends
+use Rattle.command_ends.specs.declared.command_end.CommandEnd.TheVariants as ends
 use Rattle.pump_link.proofs.Grown.{Grows-nil}
 use Rattle.relay_side.specs.Sides.{side}
 use Rattle.relay_side.proofs.Unused.{is_unused}

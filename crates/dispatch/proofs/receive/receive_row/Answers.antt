@@ -3,7 +3,7 @@ use Rattle.disk_model.specs.declared.name.Role.TheVariants as roles
 use Rattle.pump_link.proofs.Grown.{Grows-nil}
 use Rattle.script_replay.specs.Shelves.{Places, reading_at}
 use Rattle.script_replay.proofs.Shelving.{is_out}
-use Rattle.commands.specs.declared.command_end.CommandEnd.TheVariants.{Failed}
+use Rattle.command_ends.specs.declared.command_end.CommandEnd.TheVariants.{Failed}
 use Rattle.commands.proofs.Failing.{recv_came_back, recv_untaken_names}
 use Rattle.commands.proofs.LentDisks.{others_so, all_back, untaken_stops}
 use Rattle.dispatch.proofs.Received.{receives_at}

@@ -1,15 +1,15 @@
 use Rattle.std.proofs.Common.{◌≡◌, List, ℕ, Err, inl, refl, sym, subst, rules, arith}
 use Rattle.pump_link.proofs.Grown.{Grows-nil}
-use Rattle.commands.specs.Tables.{HasRow, IsRowOf, IsTableEnd}
-use Rattle.commands.specs.declared.command_end.CommandEnd.{CommandEnd}
+use Rattle.command_ends.specs.Tables.{HasRow, IsRowOf, IsTableEnd}
+use Rattle.command_ends.specs.declared.command_end.CommandEnd.{CommandEnd}
 use Rattle.disk_model.specs.declared.name.Role.{Role}
 use Rattle.commands.specs.LentDisks.{RecvFailsAt}
-use Rattle.commands.specs.declared.command_end.CommandEnd.TheVariants.{Failed}
+use Rattle.command_ends.specs.declared.command_end.CommandEnd.TheVariants.{Failed}
 use Rattle.script_replay.specs.Shelves.{AllAreBack, Places}
 use Rattle.dispatch.proofs.Received.{receives_row}
-use Rattle.commands.proofs.CommandEnds.{names_failed}
+use Rattle.command_ends.proofs.CommandEnds.{names_failed}
 use Rattle.commands.proofs.Failing.{recv_fails_later}
-use Rattle.commands.proofs.TableRows.{stops_at_table}
+use Rattle.command_ends.proofs.TableRows.{stops_at_table}
 use Rattle.dispatch.proofs.receive.run_receive.Goals as goal
 
 pub returns-in-Ok : goal.returns-in-Ok

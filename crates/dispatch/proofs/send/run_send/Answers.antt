@@ -1,7 +1,7 @@
 use Rattle.std.proofs.Common.{List, ℕ, Err, inl, inr, refl, subst}
 use Rattle.pump_link.proofs.Grown.{Grows-nil}
-use Rattle.commands.specs.Tables.{HasRow, IsRowOf}
-use Rattle.commands.proofs.TableRows.{stops_at_file}
+use Rattle.command_ends.specs.Tables.{HasRow, IsRowOf}
+use Rattle.command_ends.proofs.TableRows.{stops_at_file}
 use Rattle.dispatch.proofs.send.run_send.Goals as goal
 
 pub returns-in-Ok-clause-comes : goal.returns-in-Ok-clause-comes

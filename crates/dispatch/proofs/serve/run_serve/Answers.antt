@@ -1,14 +1,14 @@
 use Rattle.std.proofs.Common.{◌≡◌, List, ℕ, Err, inl, inr, refl, sym, ap, subst, rules, arith}
 use Rattle.relay_side.proofs.Unused.{is_unused}
-use Rattle.commands.specs.Tables.{HasRow, IsRowOf, IsTableEnd}
-use Rattle.commands.specs.declared.command_end.CommandEnd.{CommandEnd}
+use Rattle.command_ends.specs.Tables.{HasRow, IsRowOf, IsTableEnd}
+use Rattle.command_ends.specs.declared.command_end.CommandEnd.{CommandEnd}
 use Rattle.disk_model.specs.declared.name.Role.{Role}
-use Rattle.commands.specs.declared.command_end.CommandEnd.TheVariants.{Failed}
+use Rattle.command_ends.specs.declared.command_end.CommandEnd.TheVariants.{Failed}
 use Rattle.script_replay.specs.Failing.{FailsAt}
 use Rattle.script_replay.specs.Shelves.{AllAreBack, Places}
-use Rattle.commands.proofs.CommandEnds.{names_failed}
+use Rattle.command_ends.proofs.CommandEnds.{names_failed}
 use Rattle.commands.proofs.Failing.{fails_later}
-use Rattle.commands.proofs.TableRows.{stops_at_table}
+use Rattle.command_ends.proofs.TableRows.{stops_at_table}
 use Rattle.dispatch.specs.Servings.{disks, file}
 use Rattle.dispatch.proofs.Served.{serves_row, same_places}
 use Rattle.dispatch.proofs.serve.run_serve.Goals as goal

@@ -1,0 +1,2 @@
+pub mod CommandEnds
+pub mod Tables

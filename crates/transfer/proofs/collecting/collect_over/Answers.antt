@@ -1,0 +1,56 @@
+use Rattle.std.proofs.Common.{rules, ◌≡◌, ◌∷◌, [], ℕ, List, inl, inr, refl, sym, ap₂, ◌∙◌, subst}
+use Rattle.std.specs.Io.KnownBytes.{Appends}
+use Rattle.pump_link.specs.Causes.{AppendsPrefix}
+use Rattle.pump_link.specs.Ports.{Connected, BackToPorts}
+use Rattle.pump_link.proofs.Grown.{Grows-nil, Grows-then}
+use Rattle.file_collector.specs.Collecting.{taken_count}
+use Rattle.transfer.specs.Collecting.{lost_line}
+use Rattle.transfer.specs.Ends.{IsCaused}
+use Rattle.transfer.specs.declared.ending.TransferEnd.{TransferEnd}
+use Rattle.transfer.proofs.Told.{told_in_part, told_whole, rose_before, collector_caused}
+use Rattle.transfer.proofs.collecting.collect_over.Goals as goal
+
+pub returns-then-not-tell_lost-clause-collects : goal.returns-then-not-tell_lost-clause-collects
+returns-then-not-tell_lost-clause-collects g c =
+    let line = ap₂ (lost_line c.args.row.now.id) c.taken.ensures c.lost.ensures in (
+      c.args.collector,
+      c.closed.ensures.inbox,
+      inl (c.closed.ensures.end, refl, Grows-nil _, subst (AppendsPrefix (g.O.Sink.written c.args.out.now) (g.O.Sink.written c.tell_lost.new.out)) line (told_in_part _ _ _ _ c.tell_lost.ensures.printed)),
+    )
+
+pub returns-in-Err-clause-collects : goal.returns-in-Err-clause-collects
+returns-in-Err-clause-collects g c =
+    let line = ap₂ (lost_line c.args.row.now.id) c.taken.ensures c.lost.ensures in (
+      c.args.collector,
+      c.closed-in-Err.ensures.inbox,
+      inr (inl (c.closed-in-Err.ensures.end, refl, c.in-Err.ensures.did, subst (Appends (g.O.Sink.written c.args.out.now) (g.O.Sink.written c.tell_lost.new.out)) line (told_whole _ _ _ _ c.tell_lost.ensures.printed (search rules)))),
+    )
+
+pub returns-clause-collects : goal.returns-clause-collects
+returns-clause-collects g c =
+    let line = ap₂ (lost_line c.args.row.now.id) c.taken.ensures c.lost.ensures in
+    let e = c.collect_with-end in (
+      e.new.collector,
+      c.closed-2.ensures.inbox,
+      inr (inr (
+        e.result,
+        c.closed-2.ensures.end ∙ c.end_of_collector.ensures,
+        record {
+          came = c.in-Ok.link;
+          back = e.new.link;
+          over = Grows-then _ _ _ (Connected c.args.row.now.high_port c.in-Ok.link ∷ []) (BackToPorts e.new.link ∷ []) c.in-Ok.ensures.did c.back.ensures.did;
+          told = g.O.Sink.written c.tell_lost.new.out;
+          told_faults = g.O.Sink.faults c.tell_lost.new.out;
+          later = c.tell_lost.ensures.later;
+          tells = subst (Appends (g.O.Sink.written c.args.out.now) (g.O.Sink.written c.tell_lost.new.out)) line (told_whole _ _ _ _ c.tell_lost.ensures.printed (search rules));
+          collects = e.ensures.collects;
+        },
+      )),
+    )
+
+pub returns-clause-cause : goal.returns-clause-cause
+returns-clause-cause g c =
+    let e = c.collect_with-end in
+    subst (λ (end : TransferEnd). IsCaused end (record { files = 0; now_files = 0; ports = g.P.Ports.faults c.args.ports.now; now_ports = g.P.Ports.faults c.back.new.self; out = g.O.Sink.faults c.args.out.now; now_out = g.O.Sink.faults e.new.out }))
+    (sym (c.closed-2.ensures.end ∙ c.end_of_collector.ensures))
+    (collector_caused e.result _ (λ is. rose_before _ _ _ c.tell_lost.ensures.later (e.ensures.unwritten is)))

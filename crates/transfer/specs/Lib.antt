@@ -1,0 +1,4 @@
+pub mod Collecting
+pub mod Commands
+pub mod Dropping
+pub mod Ends

@@ -93,17 +93,17 @@ impl<'a, R: Files<File = File>> FileOutbox<'a, R> {
     ) -> io::Result<FileOutbox<'a, R>>
         ensures { IfOk result (λ outbox. outbox.faults ≡ 0) }
     {
-        match Folder::open(files, name) {
-            Ok(folder) => Ok(FileOutbox {
-                files,
-                folder,
-                session,
-                marked: None,
-                faults: 0,
-                notes,
-            }),
-            Err(error) => Err(error),
-        }
+        let folder = Folder::open(files, name)?;
+        // A process that was killed may have left a name that no sync covers yet.
+        folder.sync()?;
+        Ok(FileOutbox {
+            files,
+            folder,
+            session,
+            marked: None,
+            faults: 0,
+            notes,
+        })
     }
 
     // Is the marked file a regular file? A link or a pipe that was moved there is none.

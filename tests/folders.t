@@ -28,6 +28,11 @@ Two ports are free. Nobody listens at the ports 1 and 2.
   $ netpump format t.toml 1
   formatted 1
   $ mkdir out in
+  $ serve() {
+  >   : >log
+  >   netpump serve t.toml 1 $1 >record 2>>log & relay=$!
+  >   until grep -q 'high side' log; do sleep 0.05; done
+  > }
 
 A row with messages that are too short, a folder that isn't there, one that is none, and a relay that isn't.
 
@@ -77,8 +82,7 @@ A collector makes its register when it begins. One that is another's is not touc
 
 Files go from one folder to the other, the one that was changed first before the others, and are removed behind their lines. One has no bytes, and two have one name. Names that can't go are left lying.
 
-  $ netpump serve t.toml 1 4294967295 >record 2>log & relay=$!
-  $ until grep -q 'high side' log; do sleep 0.05; done
+  $ serve 4294967295
   $ netpump collect t.toml 1 4294967295 in >came 2>said & high=$!
   $ printf 'hello, world' >out/a.txt; touch -d '10 minutes ago' out/a.txt
   $ : >out/e; touch -d '9 minutes ago' out/e
@@ -122,8 +126,7 @@ The relay ends, and so do both: nothing was awaited. What was left lying is told
 
   $ kill $relay; wait $relay $high $low_end 2>/dev/null; cat said also
   netpump: 2 in number are not sent out of the folder out, since their names can't go or they are no regular files (docs/running.md, "Folders", says which names can)
-  $ netpump serve t.toml 1 3000 >record 2>log & relay=$!
-  $ until grep -q 'high side' log; do sleep 0.05; done
+  $ serve 3000
   $ mkdir two; touch two/.np-1-f-b two/.np-1-f-c
   $ netpump drop t.toml 1 4294967295 two
   fault marks 1
@@ -135,3 +138,19 @@ The relay ends, and so do both: nothing was awaited. What was left lying is told
   netpump: the file that is being sent out of the folder far began with message 1000, and the relay has accepted 37 messages, so the folder and the disks of session 1 are not of one time, or somebody else sends to this session. Give the file, whose name begins with .np-1-, its own name again, which stands at the end of that one, and drop again: it is sent from its beginning
   [13]
   $ kill $relay; wait $relay 2>/dev/null || true
+
+A folder of more files than one list keeps. At a terminal `drop` shows how far a file is, and takes that away before it says more.
+
+  $ serve 4294967295
+  $ netpump collect t.toml 1 4294967295 in >came & high=$!
+  $ mkdir many; for i in $(seq 100 399); do echo $i >many/$i; done; touch -d '1 minute ago' many/*; touch -d '2 minutes ago' many/399
+  $ python3 -c 'import pty, sys; pty.spawn(sys.argv[1:])' netpump drop t.toml 1 4294967295 many </dev/null >shown & low_end=$!
+  $ until [ "$(wc -l <came)" = 300 ]; do sleep 0.05; done
+  $ kill $relay; wait $relay $high $low_end 2>/dev/null
+  $ cut -d ' ' -f 6 came | (read first; echo $first; cmp - <(seq 100 398))
+  399
+  $ sed 's/\x1b\[K/\n/g' shown | tr -d '\r' | head -n 4 | cut -d ' ' -f 1-5
+  
+  399: 0 of 4
+  399: 4 of 4
+  sent 1 38 4 864154b81b91ae782cd8fc7f265912aafa6c36078168f96951d452cab5d99dc7

@@ -1,7 +1,7 @@
 //! A folder of the machine that files come into.
 
 use crate::entering::enter;
-use adapters::{FileFolders, FileInbox, FolderDisk, FolderNotes};
+use adapters::{FileFolders, FileInbox, FolderDisk, FolderNotes, ProgressLine};
 use disk_model::{Disk, DiskFault};
 use file_messages::FileName;
 use folders::{Folders, FoldersFault, Inbox, InboxFault};
@@ -15,7 +15,7 @@ use std::time::Clock;
 
 /// Why the folder of this name is not given, where it is not.
 fn refusal<R: Files<File = File> + Alloc + Clock>(files: &R, name: &str) -> Option<ErrorKind> {
-    let notes = FolderNotes::new();
+    let notes = FolderNotes::new(ProgressLine::none());
     let mut folders = FileFolders::new(files, &notes);
     match folders.inbox(name, 7) {
         Ok(inbox) => {
@@ -108,7 +108,7 @@ fn files_come_into_a_folder(rt: HostRuntime) -> Result<(), Fail> {
     let folder = enter(&rt, "inbox")?;
     fs::create_dir(&rt, "in")?;
     fs::write(&rt, "table", b"")?;
-    let notes = FolderNotes::new();
+    let notes = FolderNotes::new(ProgressLine::none());
     let mut folders = FileFolders::new(&rt, &notes);
     let Ok(mut inbox) = folders.inbox("in", 7) else {
         return Err(Fail::new("no folder"));

@@ -1,7 +1,7 @@
 //! A folder of the machine that files go out of.
 
 use crate::entering::enter;
-use adapters::{FileFolders, FileOutbox, FolderNotes};
+use adapters::{FileFolders, FileOutbox, FolderNotes, ProgressLine};
 use file_messages::FileName;
 use folders::{Folders, FoldersFault, Found, Mark, Outbox, Stage};
 use pump_link::Source;
@@ -103,7 +103,7 @@ fn files_go_out_of_a_folder(rt: HostRuntime) -> Result<(), Fail> {
         make(&rt, path, seconds)?;
     }
     fs::write(&rt, "out/young", b"")?;
-    let notes = FolderNotes::new();
+    let notes = FolderNotes::new(ProgressLine::none());
     let mut folders = FileFolders::new(&rt, &notes);
     let Ok(mut outbox) = folders.outbox("out", 7) else {
         return Err(Fail::new("no folder"));

@@ -69,10 +69,14 @@ impl<'a, R: Files<File = File> + Alloc + Clock> Folders for FileFolders<'a, R> {
     }
 
     // The folder is closed, and so its lock is given up.
-    fn inbox_back(&mut self, _inbox: FileInbox<'a, R>) {}
+    fn inbox_back(&mut self, _inbox: FileInbox<'a, R>) {
+        self.notes.end_progress();
+    }
 
     // As with an inbox.
-    fn outbox_back(&mut self, _outbox: FileOutbox<'a, R>) {}
+    fn outbox_back(&mut self, _outbox: FileOutbox<'a, R>) {
+        self.notes.end_progress();
+    }
 
     fn faults(&self) -> u64 {
         self.faults

@@ -8,6 +8,7 @@ use crate::folder::Folder;
 use crate::folder_disk::FolderDisk;
 use crate::folder_notes::FolderNotes;
 use arrayvec::ArrayString;
+use file_messages::Progress;
 use folders::{Inbox, InboxFault};
 use pump_frame::raised;
 use std::fmt::Write;
@@ -161,6 +162,10 @@ impl<'a, R: Files<File = File>> Inbox for FileInbox<'a, R> {
             Ok(()) => Ok(()),
             Err(error) => Err(self.fault(&error)),
         }
+    }
+
+    fn note_progress(&self, progress: &Option<Progress>) {
+        self.notes.note_progress(progress);
     }
 
     fn faults(&self) -> u64 {

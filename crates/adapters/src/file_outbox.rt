@@ -9,28 +9,31 @@ ghost use Rattle.adapters.specs.Folders.{outbox_counts_alone};
 use crate::folder::Folder;
 use crate::folder_notes::FolderNotes;
 use crate::standard::StdSource;
-use crate::waiting::list;
+use crate::waiting::{Waiting, list};
 use arrayvec::ArrayString;
-use file_messages::FileName;
+use file_messages::{FileName, Progress};
 use folders::{Found, Mark, Outbox, OutboxFault, Stage};
 use pump_frame::raised;
 use std::alloc::{Alloc, Allocator};
 use std::fs::{DirEntry, File, Files};
 use std::io::{self, ErrorKind};
 use std::time::Clock;
+use std::vec::IntoIter;
 
 /// A folder of the machine that files go out of, in a session. A file that is marked has the name that tells
 /// its mark, which begins with a dot. It tells how often a call failed, and nothing of what it holds.
 ///
 /// A file waits once two seconds have passed since it was modified last, so what is written more slowly than
-/// that is to be moved in whole. The first that was modified goes first. The folder is locked as long as
-/// this lives. What is assumed of the machine: a new name takes the place of the old one in one step, what
+/// that is to be moved in whole. The first that was modified goes first. A list of the folder serves for the
+/// first 256 files of it, as long as the next of them is as it was. The folder is locked as long as this lives. What is assumed of the machine: a new name takes the place of the old one in one step, what
 /// is synced is kept, and nobody else touches names that begin with a dot.
 #[derive(Drop)]
-pub struct FileOutbox<'a, R> {
+pub struct FileOutbox<'a, R: Alloc> {
     files: &'a R,
     folder: Folder,
     session: u32,
+    // What is left of the last list.
+    listed: IntoIter<Waiting, R::A>,
     // The name that the marked file has, where there is one.
     marked: Option<ArrayString<247>>,
     faults: u64,
@@ -71,7 +74,7 @@ fn find_marked<R: Files<File = File> + Alloc>(
     Ok(found)
 }
 
-impl<'a, R> FileOutbox<'a, R> {
+impl<'a, R: Alloc> FileOutbox<'a, R> {
     fn fault(&mut self, error: &io::Error) -> OutboxFault
         ensures raised { self.new.faults ≡ raised self.old.faults }
         ensures later { self.old.faults ≤ self.new.faults }
@@ -82,7 +85,7 @@ impl<'a, R> FileOutbox<'a, R> {
     }
 }
 
-impl<'a, R: Files<File = File>> FileOutbox<'a, R> {
+impl<'a, R: Files<File = File> + Alloc + Clock> FileOutbox<'a, R> {
     /// The folder of this name, out of which the files of a session go. `notes` keeps why a later call
     /// of it failed, and says too what the errors of this one mean.
     pub(crate) fn open(
@@ -100,10 +103,30 @@ impl<'a, R: Files<File = File>> FileOutbox<'a, R> {
             files,
             folder,
             session,
+            listed: Vec::new(files.alloc()).into_iter(),
             marked: None,
             faults: 0,
             notes,
         })
+    }
+
+    // The file that goes next. The folder is listed anew where nothing is left of the last list, or the next
+    // file of it has changed.
+    fn next_file(&mut self) -> io::Result<Option<FileName>>
+        ensures faults { self.new.faults ≡ self.old.faults }
+    {
+        if let Some(waiting) = self.listed.next() {
+            if waiting.is_there(&self.folder, self.files)? {
+                return Ok(FileName::parse(waiting.name().as_bytes()));
+            }
+        }
+        let listed = list(&self.folder, self.files)?;
+        self.notes.note_lying(listed.lying);
+        self.listed = listed.files;
+        let Some(waiting) = self.listed.next() else {
+            return Ok(None);
+        };
+        Ok(FileName::parse(waiting.name().as_bytes()))
     }
 
     // Is the marked file a regular file? A link or a pipe that was moved there is none.
@@ -195,11 +218,8 @@ impl<'a, R: Files<File = File> + Alloc + Clock> Outbox for FileOutbox<'a, R> {
     }
 
     fn next(&mut self) -> Result<Option<FileName>, OutboxFault> {
-        match list(&self.folder, self.files) {
-            Ok(listed) => {
-                self.notes.note_lying(listed.lying);
-                Ok(listed.first)
-            }
+        match self.next_file() {
+            Ok(next) => Ok(next),
             Err(error) => Err(self.fault(&error)),
         }
     }
@@ -230,6 +250,10 @@ impl<'a, R: Files<File = File> + Alloc + Clock> Outbox for FileOutbox<'a, R> {
             Ok(()) => Ok(()),
             Err(error) => Err(self.fault(&error)),
         }
+    }
+
+    fn note_progress(&self, progress: &Option<Progress>) {
+        self.notes.note_progress(progress);
     }
 
     fn faults(&self) -> u64 {

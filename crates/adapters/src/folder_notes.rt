@@ -1,22 +1,27 @@
 //! What is noted of a folder while a command works in it.
 
+use crate::progress_line::ProgressLine;
+use file_messages::Progress;
 use std::cell::Cell;
 use std::io::{self, ErrorKind};
 
 /// What is noted of a folder while a command works in it, for the sentences at its end: the folder and the
-/// files that it gave are let go where the command ends, and who starts the command keeps this.
+/// files that it gave are let go where the command ends, and who starts the command keeps this. How far a
+/// file is stands on a terminal meanwhile.
 #[derive(Drop)]
 pub struct FolderNotes {
     why: Cell<Option<ErrorKind>>,
     lying: Cell<u64>,
+    line: ProgressLine,
 }
 
 impl FolderNotes {
     /// No call has failed, and no file was left lying.
-    pub fn new() -> FolderNotes {
+    pub fn new(line: ProgressLine) -> FolderNotes {
         FolderNotes {
             why: Cell::new(None),
             lying: Cell::new(0),
+            line,
         }
     }
 
@@ -33,6 +38,15 @@ impl FolderNotes {
     /// folder to folder, or they are no regular files.
     pub fn lying(&self) -> u64 {
         self.lying.get()
+    }
+
+    // No file comes any more: what is written next has a line of its own.
+    pub(crate) fn end_progress(&self) {
+        self.line.end();
+    }
+
+    pub(crate) fn note_progress(&self, progress: &Option<Progress>) {
+        self.line.show(progress);
     }
 
     pub(crate) fn note_fault(&self, error: &io::Error) {

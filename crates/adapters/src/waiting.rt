@@ -1,23 +1,29 @@
 //! The files of a folder that wait to be sent.
 
 use crate::folder::Folder;
+use arrayvec::ArrayString;
 use file_messages::FileName;
 use pump_frame::raised;
 use std::alloc::{Alloc, Allocator};
+use std::collections::BinaryHeap;
 use std::fs::{DirEntry, File, Files, Metadata};
 use std::io::{self, ErrorKind};
 use std::os::unix::fs::MetadataExt;
 use std::time::{Clock, Duration};
+use std::vec::IntoIter;
 
 /// How many seconds ago a file was modified last that is taken. A younger one may be half written.
 const QUIET: i64 = 2;
 
+/// How many files of a list are kept, so that a folder of many is not listed for each of them.
+const KEPT: usize = 256;
+
 /// What lies in a folder.
-#[derive(Clone, Copy)]
-pub struct Listed {
-    /// The file that goes next: of those that wait the one that was modified first, and of several such the
-    /// first by name.
-    pub first: Option<FileName>,
+#[derive(Drop)]
+pub struct Listed<A: Allocator> {
+    /// The files that go next, 256 at most, in their order: the one that was modified first goes first,
+    /// and of several such the first by name.
+    pub files: IntoIter<Waiting, A>,
     /// How many files are left lying: their names are none of files that go from folder to folder, or they
     /// are no regular files. Names that begin with a dot are not counted.
     pub lying: u64,
@@ -25,15 +31,15 @@ pub struct Listed {
 
 /// A file that waits, with the seconds since 1970 at which it was modified last, and the nanoseconds
 /// behind them.
-#[derive(Clone, Copy)]
-struct Waiting {
+#[derive(Clone, Copy, PartialEq, Eq, PartialOrd, Ord)]
+pub struct Waiting {
     seconds: i64,
     nanos: i64,
-    name: FileName,
+    name: ArrayString<128>,
 }
 
 impl Waiting {
-    fn of(name: FileName, metadata: &Metadata) -> Waiting {
+    fn of(name: ArrayString<128>, metadata: &Metadata) -> Waiting {
         Waiting {
             seconds: metadata.mtime(),
             nanos: metadata.mtime_nsec(),
@@ -41,14 +47,15 @@ impl Waiting {
         }
     }
 
-    fn goes_before(&self, other: &Waiting) -> bool {
-        if self.seconds != other.seconds {
-            return self.seconds < other.seconds;
-        }
-        if self.nanos != other.nanos {
-            return self.nanos < other.nanos;
-        }
-        self.name.as_slice() < other.name.as_slice()
+    /// Its name.
+    pub fn name(&self) -> &str {
+        self.name.as_str()
+    }
+
+    /// Does it wait still as it did when it was listed?
+    pub fn is_there<R: Files<File = File>>(&self, folder: &Folder, files: &R) -> io::Result<bool> {
+        let metadata = folder.metadata(files, self.name())?;
+        Ok(metadata.is_some_and(|it| it.is_file() && Waiting::of(self.name, &it) == *self))
     }
 
     // Was it left alone long enough at this time since 1970?
@@ -69,7 +76,7 @@ enum Seen {
     Waits(Waiting),
 }
 
-fn judge(name: FileName, metadata: &Metadata, now: Duration) -> Seen {
+fn judge(name: ArrayString<128>, metadata: &Metadata, now: Duration) -> Seen {
     if !metadata.is_file() {
         return Seen::Lying;
     }
@@ -81,12 +88,18 @@ fn judge(name: FileName, metadata: &Metadata, now: Duration) -> Seen {
     }
 }
 
+// The text where it is the name of a file that goes from folder to folder.
+fn lawful(text: &str) -> Option<ArrayString<128>> {
+    FileName::parse(text.as_bytes())?;
+    ArrayString::from(text).ok()
+}
+
 fn look_at<R: Files, A: Allocator>(entry: &DirEntry<R, A>, now: Duration) -> io::Result<Seen> {
     let text = entry.file_name();
     if text.starts_with('.') {
         return Ok(Seen::Passed);
     }
-    let Some(name) = FileName::parse(text.as_bytes()) else {
+    let Some(name) = lawful(text) else {
         return Ok(Seen::Lying);
     };
     match entry.metadata() {
@@ -108,30 +121,32 @@ fn look<R: Files + Drop, A: Allocator>(
     }
 }
 
-// The one of the two that goes first.
-fn first_of(first: Option<Waiting>, other: Waiting) -> Option<Waiting> {
-    match first {
-        Some(first) if first.goes_before(&other) => Some(first),
-        _ => Some(other),
+// One more file that waits. Where they are more than are kept, the one that goes last is left out.
+fn keep<A: Allocator>(files: &mut BinaryHeap<Waiting, A>, waiting: Waiting) -> io::Result<()> {
+    files.push(waiting)?;
+    if files.len() > KEPT {
+        files.pop();
     }
+    Ok(())
 }
 
 /// What lies in the folder now.
 pub fn list<R: Files<File = File> + Alloc + Clock>(
     folder: &Folder,
     machine: &R,
-) -> io::Result<Listed> {
+) -> io::Result<Listed<R::A>> {
     let now = machine.since_1970()?;
-    let (mut first, mut lying) = (None, 0);
+    let mut files = BinaryHeap::new(machine.alloc());
+    let mut lying = 0;
     for entry in folder.list(machine)? {
         match look(entry, now)? {
-            Seen::Waits(waiting) => first = first_of(first, waiting),
+            Seen::Waits(waiting) => keep(&mut files, waiting)?,
             Seen::Lying => lying = raised(lying),
             Seen::Passed => {}
         }
     }
     Ok(Listed {
-        first: first.map(|waiting| waiting.name),
+        files: files.into_sorted_vec().into_iter(),
         lying,
     })
 }

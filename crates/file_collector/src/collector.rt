@@ -186,6 +186,7 @@ where
         match turn(&mut self.register, &progress) {
             Ok(()) => {
                 self.gatherer.let_go();
+                self.gatherer.note_progress(&progress);
                 self.is_placed = false;
                 Ok(())
             }

@@ -66,6 +66,11 @@ where
         self.assembly.progress()
     }
 
+    /// Tells whoever watches the folder how far the file is that has begun.
+    pub fn note_progress(&self, progress: &Option<Progress>) {
+        self.inbox.note_progress(progress);
+    }
+
     /// Lets the part of a file go that was dropped. It is left lying.
     pub fn let_go(&mut self)
         ensures inbox { self.new.inbox ≡ self.old.inbox }

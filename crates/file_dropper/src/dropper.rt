@@ -143,6 +143,7 @@ impl<O: Outbox> Dropper<O, O::File> {
     {
         self.number = number + 1;
         self.awaited = false;
+        self.outbox.note_progress(&self.work.progress());
         let Some(sent) = self.work.ended() else {
             return Ok(None);
         };

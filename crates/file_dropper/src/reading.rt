@@ -66,6 +66,11 @@ impl<F: Source + Drop> Reading<F> {
         cut
     }
 
+    /// How many bytes were read so far.
+    pub fn bytes(&self) -> u64 {
+        self.pieces.bytes()
+    }
+
     /// How many bytes were read, and their SHA-256.
     pub fn finish(self) -> Measure
         ensures measure { (bytes given : List ℕ) → HasRead F.left self bytes given → IsMeasure result given }

@@ -5,7 +5,8 @@ ghost use Rattle.file_dropper.specs.Leaving.{cut_length};
 ghost use Rattle.file_dropper.specs.Works.{ended_in};
 
 use crate::reading::{Measure, Reading};
-use file_messages::FileName;
+use file_messages::{FileName, Progress};
+use pump_link::Source;
 
 /// A file that is being sent, or was: the number of its first message, and what its mark tells of it.
 #[derive(Clone, Copy)]
@@ -82,6 +83,24 @@ pub enum Work<F> {
     Ended(Sent),
     /// A read of a file failed, or the file is too long.
     Failed(Reading<F>),
+}
+
+impl<F: Source + Drop> Work<F> {
+    /// How far the file is that is being sent.
+    pub fn progress(&self) -> Option<Progress> {
+        match self {
+            Work::Sending(sender) => Some(Progress {
+                name: sender.sent.name,
+                size: sender.sent.size,
+                bytes: sender.reading.bytes(),
+            }),
+            Work::Unsettled
+            | Work::GivingUp(_)
+            | Work::Free(_)
+            | Work::Ended(_)
+            | Work::Failed(_) => None,
+        }
+    }
 }
 
 impl<F> Work<F> {

@@ -8,6 +8,7 @@ ghost use Rattle.folders.specs.Placing.{FreesNoOther};
 ghost use Rattle.folders.specs.ShownNames.{IsShownName};
 
 use disk_model::Disk;
+use file_messages::Progress;
 
 /// A call of a folder failed; its count rose, or stands at its greatest value.
 #[derive(Clone, Copy, Debug, PartialEq, Eq)]
@@ -86,6 +87,10 @@ pub trait Inbox {
         }) self.old self.new }
         ensures durable { OnOk result (IsDurable told self.new) }
         ensures counted { Counted told self.old self.new result };
+
+    /// Whoever watches the folder is told how far the file is that comes, or `None` between two files. It
+    /// changes nothing in the folder.
+    fn note_progress(&self, progress: &Option<Progress>);
 
     /// How often a call failed, up to the greatest u64.
     fn faults(&self) -> u64

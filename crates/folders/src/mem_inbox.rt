@@ -9,6 +9,7 @@ ghost use Rattle.folders.specs.Placing.{Missing, Lying, first_of};
 use crate::inbox::{Inbox, InboxFault};
 use arrayvec::ArrayString;
 use disk_model::{Disk, DiskFault};
+use file_messages::Progress;
 use pump_frame::raised;
 
 // A file that is shown, under its name.
@@ -311,6 +312,9 @@ impl<D: Disk + Drop> Inbox for MemInbox<D> {
         }
         Ok(())
     }
+
+    // Nobody watches.
+    fn note_progress(&self, _progress: &Option<Progress>) {}
 
     fn faults(&self) -> u64 {
         self.faults

@@ -17,7 +17,7 @@ ghost use Rattle.folders.specs.declared.outbox_log.Entry.TheVariants.{Done, Miss
 use crate::mark::{Mark, Stage};
 use crate::outbox::{Found, Outbox, OutboxFault};
 use crate::outbox_log::{Change, Entry};
-use file_messages::FileName;
+use file_messages::{FileName, Progress};
 use pump_frame::{OutOfMemory, raised};
 use pump_link::MemSource;
 use std::alloc::Global;
@@ -367,6 +367,9 @@ impl Outbox for MemOutbox {
     {
         self.change(Change::Remove)
     }
+
+    // Nobody watches.
+    fn note_progress(&self, _progress: &Option<Progress>) {}
 
     fn faults(&self) -> u64 {
         self.faults

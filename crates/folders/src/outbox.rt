@@ -7,7 +7,7 @@ ghost use Rattle.folders.specs.Outboxes.{IsLawfulFound, found_in, taken, with_ma
 ghost use Rattle.folders.specs.declared.outbox.Found.TheVariants.{Several};
 
 use crate::mark::Mark;
-use file_messages::FileName;
+use file_messages::{FileName, Progress};
 use pump_link::Source;
 
 /// A call of an outbox failed; its count rose, or stands at its greatest value.
@@ -82,6 +82,10 @@ pub trait Outbox {
         ensures removed { result ≡ Ok tt → Makes told without_marked self.old self.new }
         ensures moves { Moves told (MayBe without_marked) self.old self.new }
         ensures cause { HasCause (told.count self.old) (told.count self.new) result };
+
+    /// Whoever watches the folder is told how far the marked file is sent, or `None` where it is not being
+    /// sent. It changes nothing in the folder.
+    fn note_progress(&self, progress: &Option<Progress>);
 
     /// How often a call failed, up to the greatest u64.
     fn faults(&self) -> u64

@@ -5,8 +5,8 @@ mod door_log;
 mod explain;
 
 use adapters::{
-    Access, Counted, FileFolders, FileShelf, FolderNotes, KeySource, ShownSource, StdSink,
-    StdSource, TcpPorts, Traffic, machine_side, now, stepping_side,
+    Access, Counted, FileFolders, FileShelf, FolderNotes, KeySource, ProgressLine, ShownSource,
+    StdSink, StdSource, TcpPorts, Traffic, machine_side, now, stepping_side,
 };
 use disk_model::Shelf;
 use dispatch::{batch, live};
@@ -175,20 +175,17 @@ where
 }
 
 /// Runs the command over folders that the words are.
-fn run_transfer<
-    R: Wait
-        + Net<Listener = TcpListener, Stream = TcpStream>
-        + Files<File = File>
-        + Alloc
-        + time::Clock,
-    S: Shelf,
-    O: Sink,
->(rt: &R, alloc: Global, words: &Vec<String>, shelf: &mut S, out: &mut O) -> Came {
-    let notes = FolderNotes::new();
+fn run_transfer<S: Shelf, O: Sink>(
+    rt: &HostRuntime,
+    words: &Vec<String>,
+    shelf: &mut S,
+    out: &mut O,
+) -> Came {
+    let notes = FolderNotes::new(ProgressLine::new(rt.stderr()));
     let mut folders = FileFolders::new(rt, &notes);
     let mut traffic = Traffic::new();
-    let RelaySide { mut ports, .. } = machine_side(alloc, rt, now(rt), &mut traffic);
-    let status = transfer(alloc, words, shelf, &mut folders, &mut ports, out);
+    let RelaySide { mut ports, .. } = machine_side(rt.alloc(), rt, now(rt), &mut traffic);
+    let status = transfer(rt.alloc(), words, shelf, &mut folders, &mut ports, out);
     let trouble = if ports.faults() == 0 {
         notes.why().map(Trouble::Folder)
     } else if begin_with(words.as_slice(), "drop") {
@@ -250,7 +247,7 @@ fn main(rt: HostRuntime) -> ExitCode {
             &log,
         )
     } else if is_transfer(words.as_slice()) {
-        run_transfer(&rt, rt.alloc(), &words, &mut shelf, &mut out)
+        run_transfer(&rt, &words, &mut shelf, &mut out)
     } else {
         let (script, out) = (script.inner_mut(), out.inner_mut());
         Came::alone(batch(rt.alloc(), &words, &mut shelf, script, out))

@@ -6,18 +6,18 @@ use file_messages::{Assembly, Cause, FileName, Step, put_abandon, put_end, put_s
 use pump_frame::Payload;
 
 // The file `a.txt` with `hello, world`.
-const START: &[u8] = b"\x02\x01\0\0\0\0\0\0\0\x0ca.txt";
+pub const START: &[u8] = b"\x02\x01\0\0\0\0\0\0\0\x0ca.txt";
 
-const PIECE: &[u8] = b"\0hello, world";
+pub const PIECE: &[u8] = b"\0hello, world";
 
-const END: &[u8] =
+pub const END: &[u8] =
     b"\x03\x09\xca\x7e\x4e\xaa\x6e\x8a\xe9\xc7\xd2\x61\x16\x71\x29\x18\x48\x83\x64\x4d\x07\xdf\xba\x7c\xbf\xbc\x4c\
     \x8a\x2e\x08\x36\x0d\x5b";
 
 // The empty file `e`.
-const EMPTY_START: &[u8] = b"\x02\x01\0\0\0\0\0\0\0\0e";
+pub const EMPTY_START: &[u8] = b"\x02\x01\0\0\0\0\0\0\0\0e";
 
-const EMPTY_END: &[u8] =
+pub const EMPTY_END: &[u8] =
     b"\x03\xe3\xb0\xc4\x42\x98\xfc\x1c\x14\x9a\xfb\xf4\xc8\x99\x6f\xb9\x24\x27\xae\x41\xe4\x64\x9b\x93\x4c\xa4\x95\
     \x99\x1b\x78\x52\xb8\x55";
 

@@ -1,6 +1,0 @@
-//! Tests of files from folder to folder. They use the public calls of their crates alone, and stand here
-//! so that a change of a test makes no crate be proved again.
-#![tactic(auto)]
-
-#[cfg(test)]
-mod message_tests;

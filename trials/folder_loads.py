@@ -1,5 +1,5 @@
-"""folder_loads: the loads of trials/folders: many files through one session, how fast a file goes, and how much memory that takes. It is
-a module: run by itself it does nothing."""
+"""folder_loads: the loads of trials/folders: many files through one session, messages that no `drop` sent, how fast a file goes, and how
+much memory that takes. It is a module: run by itself it does nothing."""
 import hashlib
 import os
 import random
@@ -9,6 +9,7 @@ import tempfile
 import time
 
 import common
+import crash_folders
 import folder_trial
 from folder_trial import HIGH, LOW
 
@@ -51,13 +52,12 @@ def run_through(group, limit):
 
 
 class Feed:
-    """Small files, each with its number as its bytes and every seventh empty, and one of 20 MB in their middle. At most 200 wait, since
-    `drop` looks at all that wait before each file."""
+    """Small files, each with its number as its bytes and every seventh empty, and one of 20 MB in their middle. All lie there at once."""
 
     LARGE = 20_000_000
 
     def __init__(self, folder, count):
-        self.folder, self.count, self.next, self.large = folder, count, 0, random.Random(1).randbytes(self.LARGE)
+        self.folder, self.count, self.large = folder, count, random.Random(1).randbytes(self.LARGE)
 
     def content(self, place):
         return self.large if place == self.count // 2 else b"" if place % 7 == 0 else b"%d" % place
@@ -66,10 +66,8 @@ class Feed:
         return f"{place}.txt"
 
     def fill(self):
-        if self.next < self.count and len(os.listdir(f"{self.folder}/{LOW}")) < 100:
-            for place in range(self.next, min(self.count, self.next + 100)):
-                put(self.folder, self.name(place), self.content(place), place)
-            self.next = min(self.count, self.next + 100)
+        for place in range(self.count):
+            put(self.folder, self.name(place), self.content(place), place)
 
     def wrong(self):
         """The places whose files are not there, and whether the lines tell all in order."""
@@ -87,14 +85,61 @@ def many(program, room, count=100_000):
         feed = Feed(folder, count)
         feed.fill()
         for seconds in run_through(group, 3600 * 3):
-            feed.fill()
-            time.sleep(0.02)
+            time.sleep(0.5)
         group.kill_all()
         messages, _, _ = folder_trial.counts(folder)
         lost, more, in_order = feed.wrong()
         print(f"{count} files, one of {Feed.LARGE} bytes, took {seconds:.0f} seconds and {messages} messages: {len(lost)} are lost, "
               f"{more} are too many, they came {'in' if in_order else 'OUT OF'} order")
         return 1 if lost or more or not in_order else 0
+
+
+# ---- messages that no drop sent ----
+
+
+def some_message(draw, begun):
+    """A message at random, of which one in two goes on with the file that has begun, if one has."""
+    if begun is not None and draw.random() < 0.5:
+        if len(begun.content) == begun.size:
+            return b"\3" + hashlib.sha256(begun.content).digest()
+        return b"\0" + draw.randbytes(draw.randint(1, min(40, begun.size - len(begun.content))))
+    name = draw.choice([b"a", b"b.txt", b"Z 9", bytes(draw.choices(b"ab./~-_ Z\0", k=draw.randint(0, 6)))])
+    size = draw.choice([0, 1, 2, 30, 2**48 - 1, 2**48]).to_bytes(8, "big")
+    start = draw.choice([b"\2\1", b"\2\1", b"\2\2"]) + size + name
+    return draw.choice([start, start, start, start, b"\4", b"\3" + draw.randbytes(32), b"\0" + draw.randbytes(5), draw.randbytes(draw.randint(0, 40))])
+
+
+def some_messages(draw, count):
+    """So many messages, and what they lead to."""
+    messages = crash_folders.Messages()
+    for number in range(count):
+        messages.put(number, some_message(draw, messages.after(number).begun))
+    return messages
+
+
+def odd(program, room, count=10_000):
+    """Low sends messages at random by `send`, and a file by `drop` behind them."""
+    with tempfile.TemporaryDirectory(dir=room) as folder:
+        group = start_all(program, folder, {"send": [program, "send", "t.toml", "1", common.MOST_LOOKS]})
+        messages = some_messages(random.Random(1), count)
+        with open(f"{folder}/lines", "w") as out:
+            out.writelines(f"{message.hex() or '-'}\n" for message in messages.list)
+        begun = time.monotonic()
+        group.start("collect")
+        group.start("send")
+        status = group.running.pop("send").wait()
+        put(folder, "last", b"hello, world", 0)
+        for _ in run_through(group, 600):
+            time.sleep(0.05)
+        seconds = time.monotonic() - begun
+        group.kill_all()
+        came = messages.after(count).came
+        told = [line[4] for line in folder_trial.printed(folder)["file"]]
+        found = [common.read(f"{folder}/{HIGH}/{name}") for name in told]
+        is_right = found == [content for _, _, content in came] + [b"hello, world"] and set(os.listdir(f"{folder}/{HIGH}")) - set(told) <= {".1.files", ".1.part"}
+        print(f"{count} messages at random took {seconds:.0f} seconds and gave {len(came)} files, and a file behind them came whole: "
+              f"{'all is right' if is_right and status == 0 else 'WRONG'}")
+        return 0 if is_right and status == 0 else 1
 
 
 # ---- speed ----

@@ -5,6 +5,7 @@ pub mod Collects
 pub mod Feeding
 pub mod Starting
 pub mod Made
+pub mod Makes
 pub mod Resumes
 pub mod Found
 pub mod Opens

@@ -6,6 +6,7 @@ ghost use Rattle.disk_model.specs.Disk.{Moves, Same, Settled};
 ghost use Rattle.file_messages.specs.Files.{Between};
 ghost use Rattle.file_collector.specs.Registers.{RegisterStands, header, register_size};
 ghost use Rattle.file_collector.specs.Making.{new_register, IsRegister, IsUnmade, IsUnmarked, IsMadeOf};
+ghost use Rattle.file_collector.specs.Making.{MayBeMade, MayClear};
 ghost use Rattle.file_collector.specs.declared.values.CollectFault.TheVariants.{Register};
 ghost use Rattle.file_collector.specs.Closed.{IsMakeFault};
 
@@ -43,6 +44,7 @@ fn device<D: Disk>(disk: &D) -> CollectFault
 // The size of a disk, after a sync.
 fn synced_size<D: Disk>(disk: &mut D) -> Result<u64, DiskFault>
     ensures size { IfOk result (λ n. D.told.tells → n ≡ length (D.told.reading disk.new)) }
+    ensures settled { OnOk result (Settled D.told disk.new) }
     ensures moves { Moves D.told Same disk.old disk.new }
     ensures later { D.told.count disk.old ≤ D.told.count disk.new }
     ensures rose { IsErr result → Rose (D.told.count disk.old) (D.told.count disk.new) }
@@ -57,6 +59,8 @@ fn is_cleared<D: Disk>(disk: &mut D) -> Result<bool, DiskFault>
         → take 4 (D.told.reading disk.new) ≡ 0 ∷ 0 ∷ 0 ∷ 0 ∷ []) }
     ensures within { IfOk result (λ cleared. IsTrue cleared → D.told.tells
         → 4 ≤ length (D.told.reading disk.new)) }
+    ensures marked { IfOk result (λ cleared. cleared ≡ false → D.told.tells
+        → take 4 (D.told.reading disk.old) ≡ 0 ∷ 0 ∷ 0 ∷ 0 ∷ [] → ⊥) }
     ensures moves { Moves D.told Same disk.old disk.new }
     ensures later { D.told.count disk.old ≤ D.told.count disk.new }
     ensures rose { IsErr result → Rose (D.told.count disk.old) (D.told.count disk.new) }
@@ -77,6 +81,8 @@ fn clear<D: Disk>(disk: &mut D) -> Result<(), DiskFault>
         → take 4 (D.told.reading disk.new) ≡ 0 ∷ 0 ∷ 0 ∷ 0 ∷ []) }
     ensures within { OnOk result (D.told.tells → 4 ≤ length (D.told.reading disk.new)) }
     ensures few { OnOk result (D.told.tells → length (D.told.reading disk.new) ≤ register_size) }
+    ensures settled { OnOk result (Settled D.told disk.old → Settled D.told disk.new) }
+    ensures moves { Settled D.told disk.old → Moves D.told MayClear disk.old disk.new }
     ensures later { D.told.count disk.old ≤ D.told.count disk.new }
     ensures rose { IsErr result → Rose (D.told.count disk.old) (D.told.count disk.new) }
 {
@@ -92,6 +98,9 @@ fn write_new<D: Disk>(disk: &mut D) -> Result<(), DiskFault>
     requires { D.told.tells → length (D.told.reading disk.old) ≤ register_size }
     ensures made { OnOk result (D.told.tells → D.told.reading disk.new ≡ new_register) }
     ensures settled { OnOk result (Settled D.told disk.new) }
+    // A crash at any moment leaves a disk that was not made to its end, or a new register.
+    ensures moves { Settled D.told disk.old → (D.told.tells → IsUnmade (D.told.reading disk.old))
+        → Moves D.told MayBeMade disk.old disk.new }
     ensures later { D.told.count disk.old ≤ D.told.count disk.new }
     ensures rose { IsErr result → Rose (D.told.count disk.old) (D.told.count disk.new) }
 {
@@ -141,6 +150,7 @@ fn is_made<D: Disk>(disk: &mut D) -> Result<bool, CollectFault>
         → IsUnmade (D.told.reading disk.old)) }
     ensures few { IfOk result (λ made. made ≡ false → D.told.tells
         → length (D.told.reading disk.new) ≤ register_size) }
+    ensures settled { OnOk result (Settled D.told disk.new) }
     ensures moves { Moves D.told Same disk.old disk.new }
     ensures cause { IfErr result (λ fault. IsMakeFault D.told disk.old disk.new fault) }
     ensures later { D.told.count disk.old ≤ D.told.count disk.new }
@@ -173,6 +183,8 @@ pub fn make<D: Disk>(disk: &mut D) -> Result<(), CollectFault>
         → D.told.reading disk.new ≡ new_register) }
     ensures made_of { OnOk result (D.told.tells
         → IsMadeOf (D.told.reading disk.old) (D.told.reading disk.new)) }
+    // A crash at any moment keeps a register that counts, and what is another's.
+    ensures moves { Moves D.told MayBeMade disk.old disk.new }
     ensures cause { IfErr result (λ fault. IsMakeFault D.told disk.old disk.new fault) }
     ensures later { D.told.count disk.old ≤ D.told.count disk.new }
 {

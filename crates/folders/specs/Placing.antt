@@ -1,5 +1,5 @@
 -- What the folder tells that files come into, and how its calls move that.
-use Rattle.std.specs.Prelude.{◌≡◌, ◌⊎◌, ℕ, ◌≤◌, nat_le, Bool, true, false, if◌then◌else◌, List, [], ◌∷◌, ◌++◌, length}
+use Rattle.std.specs.Prelude.{◌≡◌, ◌⊎◌, ℕ, ◌≤◌, nat_le, Bool, true, false, if◌then◌else◌, List, length}
 use Rattle.std.specs.Prelude.{take, Option, None, Some, Result, IsErr}
 use Rattle.file_messages.specs.Files.{File}
 use Rattle.pump_frame.specs.Counts.{Rose}

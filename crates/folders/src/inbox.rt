@@ -24,10 +24,12 @@ pub trait Inbox {
     /// What the folder tells of itself.
     ghost told: { Placing Self };
 
-    /// The disk of the register; a new one is empty. None is given twice. What is shown is durable then.
+    /// The disk of the register; a new one is empty. None is given twice. What is shown is durable then,
+    /// and what the disk holds.
     fn register(&mut self) -> Result<Self::Disk, InboxFault>
         ensures reads { IfOk result (λ disk. told.tells
             → told.register self.old ≡ Some (Self.Disk.told.reading disk)) }
+        ensures settled { IfOk result (λ disk. Settled Self.Disk.told disk) }
         ensures stays { Stays told self.old self.new }
         ensures durable { OnOk result (IsDurable told self.new) }
         ensures counted { Counted told self.old self.new result };

@@ -242,12 +242,18 @@ impl<D: Disk + Drop> Inbox for MemInbox<D> {
         if self.is_failing() {
             return Err(self.fault());
         }
-        match self.register.take() {
-            Some(disk) => {
+        let Some(mut disk) = self.register.take() else {
+            return Err(self.fault());
+        };
+        match disk.sync() {
+            Ok(()) => {
                 self.is_undecided = false;
                 Ok(disk)
             }
-            None => Err(self.fault()),
+            Err(DiskFault) => {
+                self.register = Some(disk);
+                Err(self.fault())
+            }
         }
     }
 

@@ -1,4 +1,4 @@
-use Rattle.std.proofs.Common.{◌≡◌, ◌++◌, ◌∷◌, [], List, ℕ, refl, sym, ◌∙◌, ap}
+use Rattle.std.proofs.Common.{◌∙◌, ap}
 use Rattle.folders.specs.MemInbox.{is_other_in, is_free_in}
 use Rattle.folders.specs.declared.mem_inbox.MemInbox.{MemInbox}
 use Rattle.folders.proofs.Free.{taken_now, free_as_before}

@@ -1,25 +1,27 @@
 -- Why a collector does not open.
-use Rattle.std.proofs.Common.{◌≡◌, ◌⊎◌, inl, inr, ⊎_elim, ◌^◌, ◌-◌, ℕ, suc, ◌<◌, ◌≤◌, List, [], ◌∷◌, length, take, Option, Some, Result, Ok, Err, IfErr, refl, sym, ◌∙◌, ap, subst, arith}
+use Rattle.std.proofs.Common.{◌≡◌, ◌⊎◌, inl, inr, ⊎_elim, ◌^◌, ◌-◌, ℕ, suc, ◌<◌, ◌≤◌, List, [], length, take, Option, Some, Result, Ok, Err, IfErr, sym, ◌∙◌, ap, subst, arith}
 use Rattle.pump_frame.specs.Counts.{Rose}
-use Rattle.disk_model.specs.Disk.{Meaning, Moves, Same}
+use Rattle.disk_model.specs.Disk.{Meaning, Moves, Same, Settled}
+use Rattle.disk_model.proofs.Run.{goes_on_same}
 use Rattle.stable_buffer.specs.Register.{IsReady, register_disk, register_value, value_of, cell_at, place_of}
 use Rattle.stable_buffer.specs.declared.register.Register.{Register}
 use Rattle.file_messages.specs.Files.{State, Between, Inside, state_after}
 use Rattle.file_messages.specs.Assemblies.{StandsFor, progress_of}
 use Rattle.file_messages.specs.declared.assembly.Assembly.{Assembly}
 use Rattle.file_messages.specs.declared.assembly.Progress.{Progress}
-use Rattle.folders.specs.Placing.{Placing, first_of}
-use Rattle.file_collector.specs.Registers.{RegisterStands, HasStart}
+use Rattle.folders.specs.Placing.{Placing}
+use Rattle.file_collector.specs.Registers.{RegisterStands, HasStart, IsKept}
 use Rattle.file_collector.specs.Gathering.{IsWellBegun}
-use Rattle.file_collector.specs.Making.{IsRegister, IsUnmade, IsOther, IsMadeOf}
+use Rattle.file_collector.specs.Making.{IsRegister, IsOther, IsMadeOf, MayBeMade}
 use Rattle.file_collector.specs.Parts.{IsDevice}
-use Rattle.file_collector.specs.Closed.{IsOwn, RegisterReads, CallFailed, MayBeCounted, IsSound, IsDamaged, HasNoStart, HasFailed, IsOpenedOn, IsTaken, IsFindFault, IsWhyClosed}
+use Rattle.file_collector.specs.Closed.{IsOwn, RegisterReads, CallFailed, MayBeCounted, IsSound, IsDamaged, HasNoStart, IsOpenedOn, IsTaken, IsRegisterFault, IsFindFault, IsWhyClosed}
 use Rattle.file_collector.specs.declared.values.CollectFault.{CollectFault}
 use Rattle.file_collector.specs.declared.values.CollectFault.TheVariants.{Folder, Register as OfRegister, Other, Damaged}
 use Rattle.file_collector.proofs.Found.{progress_size}
 use Rattle.file_collector.specs.Reopening.{OpensOn}
 use Rattle.file_collector.proofs.Made.{new_stands}
 use Rattle.file_collector.proofs.Opens.{begun_all}
+use Rattle.file_collector.proofs.Crashes.{gave_by, gave_on, made_opens, part_by}
 
 pub if_err : {T E : Type 0} (r : Result T E) (P Q : E → Type 0) → ((e : E) → P e → Q e) → IfErr r P → IfErr r Q
 if_err (Ok t) P Q f p = tt
@@ -78,19 +80,6 @@ past_end disk v is some assembly progress of found tells stands past sound =
     let few = b.lawful.2 in
     past b.few (omega (arith, few, sized, b.holds))
 
-take_take : (disk : List ℕ) → take 4 (take 32 disk) ≡ take 4 disk
-take_take [] = refl
-take_take (a ∷ []) = refl
-take_take (a ∷ b ∷ []) = refl
-take_take (a ∷ b ∷ c ∷ []) = refl
-take_take (a ∷ b ∷ c ∷ d ∷ rest) = refl
-
-begins_two : (disk : List ℕ) → take 4 (take 32 disk) ≡ 78 ∷ 80 ∷ 68 ∷ 49 ∷ [] → take 4 disk ≡ 0 ∷ 0 ∷ 0 ∷ 0 ∷ [] → ⊥
-begins_two disk one two = let same : take 4 (take 32 disk) ≡ take 4 disk = take_take disk in let no : 78 ∷ 80 ∷ 68 ∷ 49 ∷ [] ≡ 0 ∷ 0 ∷ 0 ∷ 0 ∷ [] = sym one ∙ same ∙ two in cc no
-
-pub unmade_not : (disk : List ℕ) → IsUnmade disk → IsRegister disk → ⊥
-unmade_not disk unmade is = ⊎_elim (λ (h : length disk < 220). absurd (omega (arith, h, is.size))) (λ h. ⊎_elim (λ (zeros : take 4 disk ≡ 0 ∷ 0 ∷ 0 ∷ 0 ∷ []). begins_two disk (ap (λ (l : List ℕ). take 4 l) is.begins) zeros) (λ other. other.0 is.begins) h.1) unmade
-
 -- what stands for messages is sound, and no other's
 may_of : (count : ℕ) (state : State) → count < 2 ^ 48 → IsWellBegun state → MayBeCounted count state
 may_of count Between lt begun = omega (arith, lt)
@@ -111,17 +100,15 @@ module _ {D : Type 0} (m : Meaning D) where
   pub device_later : (a b c : D) (faults : ℕ) → m.count a ≤ m.count b → IsDevice m b c faults → IsDevice m a c faults
   device_later a b c faults le d = (d.0, rose_later (m.count a) (m.count b) (m.count c) le d.1)
 
-  pub failed_later : (a b : D) (faults : ℕ) → m.count a ≤ m.count b → HasFailed m b faults → HasFailed m a faults
-  failed_later a b faults le f = record { left = f.left; device = device_later a b f.left faults le f.device }
-
   pub opened_on : (given made : D) (register : Register D) → m.count given ≤ m.count made → m.count made ≤ m.count (register_disk register) → Moves m Same made (register_disk register)
-      → (m.tells → IsMadeOf (m.reading given) (m.reading made)) → IsOpenedOn m given register
-  opened_on given made register first second moves of = record {
+      → (m.tells → IsMadeOf (m.reading given) (m.reading made)) → Moves m MayBeMade given made → IsOpenedOn m given register
+  opened_on given made register first second moves of so_far = record {
     later = omega (arith, first, second);
     made = λ told. ⊎_elim
         (λ h. inl (h.0, moves.reads told ∙ h.1))
         (λ h. inr (h.0, moves.reads told ∙ h.1))
         (of told);
+    moves = goes_on_same m MayBeMade given made (register_disk register) so_far moves;
   }
 
   -- an unsound disk under a register that tells of a file is a register's, and damaged
@@ -137,20 +124,32 @@ module _ {D : Type 0} (m : Meaning D) where
       (opened.made told)
 
 module _ {I D : Type 0} (mi : Placing I) (md : Meaning D) where
-  -- what was found behind a register that was taken tells why a collector does not open
-  pub closed_by : (old taken new : I) (register : Register D) (fault : CollectFault) → IsTaken mi md old register → IsReady md register → 0 < register.second → mi.count old ≤ mi.count taken → mi.part taken ≡ mi.part old
-      → IsFindFault mi md taken new register fault → IsWhyClosed mi md old new fault
-  closed_by old taken new register (Folder faults) is ready some le same fault = ⊎_elim
-      (λ f. inl (f.0, rose_later (mi.count old) (mi.count taken) (mi.count new) le f.1))
-      (λ f. inr (record { given = f.given; count = f.count; reads = λ told. ap (first_of f.count) (sym same) ∙ f.reads told; failed = f.failed }))
-      fault
-  closed_by old taken new register (OfRegister faults) is ready some le same fault = record {
-    given = is.given;
-    reads = is.reads;
-    failed = failed_later md is.given (register_disk register) faults is.opened.later fault;
+  -- no register was opened on the disk that the inbox gave
+  pub closed_at : (old new : I) (given : D) (fault : CollectFault) → (mi.tells → mi.register old ≡ Some (md.reading given)) → Settled md given → IsRegisterFault md given fault → IsWhyClosed mi md old new fault
+  closed_at old new given (Folder faults) reads settled fault = absurd fault
+  closed_at old new given (OfRegister faults) reads settled fault = record {
+    left = fault.left;
+    gave = gave_by mi md old given fault.left reads settled (made_opens md mi.tells (mi.part old) given fault.left fault.moves);
+    device = fault.device;
   }
-  closed_by old taken new register Other is ready some le same fault = absurd fault
-  closed_by old taken new register Damaged is ready some le same fault = λ told tells. record {
+  closed_at old new given Other reads settled fault = λ told tells. record { bytes = md.reading given; reads = reads told; holds = fault tells }
+  closed_at old new given Damaged reads settled fault = λ told tells. record { bytes = md.reading given; reads = reads told; holds = fault tells }
+
+  -- what was found behind a register that was taken tells why a collector does not open
+  pub closed_by : (old taken new : I) (register : Register D) (fault : CollectFault) → IsTaken mi md old register → IsReady md register → Settled md (register_disk register) → 0 < register.second → mi.count old ≤ mi.count taken → mi.part taken ≡ mi.part old
+      → (mi.tells → md.tells → (count : ℕ) (state : State) (bytes : List ℕ) → mi.register old ≡ Some bytes → RegisterStands count state bytes → IsKept md register count state)
+      → IsFindFault mi md taken new register fault → IsWhyClosed mi md old new fault
+  closed_by old taken new register (Folder faults) is ready settled some le same found fault = ⊎_elim
+      (λ f. inl (f.0, rose_later (mi.count old) (mi.count taken) (mi.count new) le f.1))
+      (λ f. inr (record { left = f.left; gave = part_by mi md old taken register f.left same found f.taken; device = f.device }))
+      fault
+  closed_by old taken new register (OfRegister faults) is ready settled some le same found fault = record {
+    left = fault.left;
+    gave = gave_on mi md old taken register fault.left is settled same fault.moves;
+    device = device_later md is.given (register_disk register) fault.left faults is.opened.later fault.device;
+  }
+  closed_by old taken new register Other is ready settled some le same found fault = absurd fault
+  closed_by old taken new register Damaged is ready settled some le same found fault = λ told tells. record {
     bytes = md.reading is.given;
     reads = is.reads told;
     holds = damaged_by md is.given register tells is.opened (value_read md register ready tells) (inl some) (fault tells);

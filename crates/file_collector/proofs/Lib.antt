@@ -9,5 +9,6 @@ pub mod Makes
 pub mod Resumes
 pub mod Found
 pub mod Opens
+pub mod Crashes
 pub mod Causes
 pub mod Sound

@@ -20,14 +20,14 @@ pub begun_all : (state : State) (messages : List (List ℕ)) → IsWellBegun sta
 begun_all state [] h = h
 begun_all state (m ∷ ms) h = begun_all (after state (message_of m)) ms (begun_after state m h)
 
-take_next : (messages : List (List ℕ)) (count : ℕ) → count < length messages → take (count + 1) messages ≡ take count messages ++ get_or messages count [] ∷ []
+pub take_next : (messages : List (List ℕ)) (count : ℕ) → count < length messages → take (count + 1) messages ≡ take count messages ++ get_or messages count [] ∷ []
 take_next [] count lt = absurd (omega (arith, lt))
 take_next (m ∷ ms) zero lt = refl
 take_next (m ∷ ms) (suc count) lt =
     let on : suc count + 1 ≡ suc (count + 1) = omega arith in
     ap (λ n. take n (m ∷ ms)) on ∙ ap (λ (l : List (List ℕ)). m ∷ l) (take_next ms count (omega (arith, lt)))
 
-missing : (part : Part) → is_there part ≡ false → part ≡ Missing
+pub missing : (part : Part) → is_there part ≡ false → part ≡ Missing
 missing Missing e = refl
 missing (Lying bytes) e = absurd (cc e)
 missing Given e = absurd (cc e)

@@ -42,7 +42,7 @@ start_on first n old new few value torn = record { same = stands }
         let none : 0 ≡ suc (length bytes) = ap (λ (v : ℕ × ℕ). v.1) (sym value ∙ is.value) in absurd (omega (arith, none))
 
 -- what stays outside of the register keeps the start
-start_stays : (state : State) (old new : List ℕ) → SameOutside old new → HasStart state old → HasStart state new
+pub start_stays : (state : State) (old new : List ℕ) → SameOutside old new → HasStart state old → HasStart state new
 start_stays Between old new same is = tt
 start_stays (Inside name size bytes) old new same is = ap (λ (l : List ℕ). take (2 + length (start_message name size)) l) same.rest ∙ is
 

@@ -53,6 +53,11 @@ pub record Turns (next : State) (old new : List ℕ) : Type 0 where
   pub more : (count : ℕ) (state : State) → RegisterStands count state old → Follows state next
       → RegisterStands (count + 1) next new
 
+-- it stands for the same count, and for the same state or for between two files
+pub record MayLeaveFile (old new : List ℕ) : Type 0 where
+  pub either : (count : ℕ) (state : State) → RegisterStands count state old
+      → RegisterStands count state new ⊎ RegisterStands count Between new
+
 -- the register is open and durable, and its disk stands for these
 pub record IsKept {D : Type 0} (m : Meaning D) (register : Register D) (count : ℕ) (state : State) : Type 0 where
   pub ready : IsReady m register

@@ -10,7 +10,7 @@ ghost use Rattle.file_collector.specs.Collecting.{IsCounting};
 ghost use Rattle.file_collector.specs.Registers.{RegisterStands};
 ghost use Rattle.file_collector.specs.Reopening.{OpensOn, IsNew, TakesUp, inbox_of};
 ghost use Rattle.folders.specs.Placing.{Turns};
-ghost use Rattle.file_collector.specs.Closed.{IsWhyClosed, CallFailed, RegisterReads, IsOwn};
+ghost use Rattle.file_collector.specs.Closed.{IsWhyClosed, CallFailed, RegisterReads, IsOwn, IsLeftOf};
 ghost use Rattle.file_collector.specs.Making.{IsUnmade};
 
 use crate::gathering::Gatherer;
@@ -67,6 +67,13 @@ where
         // What is shown is as before, and a crash at any moment leaves the names as one before it would.
         ensures shown { I.told.shown (inbox_of result) ≡ I.told.shown inbox }
         ensures turns { Turns I.told (λ names. ⊥) inbox (inbox_of result) }
+
+        // Whatever a crash inside leaves of the register's disk, from the moment on that the inbox gave it, fits
+        // the messages that the folder fitted, with its names and any part that has the counted bytes; and a
+        // part that it gave has these. After an error the disks are gone: `cause` says the same of one whose
+        // call failed, until that call, and nothing of one that no call of its own failed on.
+        ensures during { IfOk result (λ c. IsLeftOf I.told I.Disk.told inbox
+            (register_disk c.register) c.gatherer.part) }
 
         // It fails only for the cause that it tells; and what fits messages is opened unless a call fails.
         ensures cause { IfErr result (λ refused. IsWhyClosed I.told I.Disk.told inbox refused.0 refused.1) }

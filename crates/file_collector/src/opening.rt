@@ -1,6 +1,6 @@
 // What a collector finds on its disk and in its folder when it opens.
 ghost use Rattle.std.specs.Prelude.{◌≡◌, ℕ, List, [], None, Some, option_map, IfSome, ◌+◌, ◌^◌, ◌<◌, ◌≤◌, length, take};
-ghost use Rattle.std.specs.Prelude.{drop, IfOk, OnOk, IfErr, IsErr, IsSome, ◌↔◌};
+ghost use Rattle.std.specs.Prelude.{drop, ◌-◌, IfOk, OnOk, IfErr, IsErr, IsSome, ◌↔◌};
 ghost use Rattle.byteorder.specs.Endian.{big_bytes};
 ghost use Rattle.stable_buffer.specs.Numbers.{length_at};
 ghost use Rattle.pump_frame.specs.Counts.{Rose};
@@ -17,7 +17,9 @@ ghost use Rattle.folders.specs.Placing.{Given, Stays, IsDurable, Turns, first_of
 ghost use Rattle.file_collector.specs.Gathering.{IsWellBegun, PartStands};
 ghost use Rattle.file_collector.specs.Closed.{IsCallFault, IsStartFault, IsRegisterFault, IsTurnFault, IsResumeFault};
 ghost use Rattle.file_collector.specs.Closed.{IsFindFault, IsWhyClosed, IsOpenedOn};
-ghost use Rattle.file_collector.specs.Closed.{IsTaken, RegisterReads, IsSound, IsOwn};
+ghost use Rattle.file_collector.specs.Closed.{IsTaken, RegisterReads, IsSound, IsOwn, MayPass, MaySkip, LyingTaken};
+ghost use Rattle.file_collector.specs.Closed.{IsLeftOf};
+ghost use Rattle.file_collector.specs.Registers.{MayTurn, MayLeaveFile};
 ghost use Rattle.file_collector.specs.Opening.{HasFed, IsBegun, IsBegunWith, IsBegunBy, IsFound, IsFoundAt, lying_part};
 ghost use Rattle.file_collector.specs.Opening.{IsFoundWith};
 ghost use Rattle.file_collector.specs.declared.values.CollectFault.TheVariants.{Register as OfRegister};
@@ -234,12 +236,14 @@ where
         → option_map I.Disk.told.reading part ≡ first_of count (I.told.part inbox.old)) }
     ensures given { IfOk result (λ part. IfSome part (λ disk. I.told.tells
         → I.told.part inbox.new ≡ Given)) }
+    ensures taken { IfOk result (λ part. IfSome part (λ disk.
+        LyingTaken I.told I.Disk.told inbox.old count disk)) }
     ensures left { result ≡ Ok None → I.told.tells → I.told.part inbox.new ≡ I.told.part inbox.old }
     ensures shown { I.told.shown inbox.new ≡ I.told.shown inbox.old }
     ensures durable { OnOk result (IsDurable I.told inbox.old → IsDurable I.told inbox.new) }
     ensures turns { Turns I.told (λ names. ⊥) inbox.old inbox.new }
     ensures later { I.told.count inbox.old ≤ I.told.count inbox.new }
-    ensures cause { IfErr result (λ fault. IsResumeFault I.told I.Disk.told inbox.old inbox.new fault) }
+    ensures cause { IfErr result (λ fault. IsResumeFault I.told I.Disk.told inbox.old inbox.new count fault) }
 {
     match inbox.resume(count) {
         Ok(Some(mut part)) => match feed(&mut part, assembly, count) {
@@ -272,6 +276,7 @@ fn count_shown<D: Disk>(register: &mut Register<D>) -> Result<(), CollectFault>
     ensures register { OnOk result (HasRegister D.told register.new) }
     ensures counted { OnOk result ((count : ℕ) (state : State) → IsKept D.told register.old count state
         → IsKept D.told register.new (count + 1) Between) }
+    ensures moves { Moves D.told (MayTurn Between) (register_disk register.old) (register_disk register.new) }
     ensures cause { IfErr result (λ fault. IsCallFault D.told (register_disk register.old)
         (register_disk register.new) fault) }
 {
@@ -288,6 +293,8 @@ fn leave_lost<D: Disk>(register: &mut Register<D>) -> Result<(), CollectFault>
     ensures left { OnOk result (register_value register.new ≡ ((register_value register.old).0, 0)) }
     ensures kept { OnOk result ((count : ℕ) (state : State) → IsKept D.told register.old count state
         → IsKept D.told register.new count Between) }
+    // A crash at any moment leaves the same count and the file that had begun, or none.
+    ensures moves { Moves D.told MayLeaveFile (register_disk register.old) (register_disk register.new) }
     ensures cause { IfErr result (λ fault. IsCallFault D.told (register_disk register.old)
         (register_disk register.new) fault) }
 {
@@ -338,7 +345,10 @@ fn without_part<D: Disk + Drop>(
         → found.lost ≡ Some progress.now.name) }
     ensures left { IfOk result (λ found. (count ≡ progress.now.size → ⊥) → (n : ℕ) (state : State)
         → IsKept D.told register n state → IsKept D.told found.register n Between) }
-    ensures cause { IfErr result (λ fault. IsTurnFault D.told (register_disk register) fault) }
+    ensures moves { IfOk result (λ found. Moves D.told (MaySkip (count ≡ progress.now.size))
+        (register_disk register) (register_disk found.register)) }
+    ensures cause { IfErr result (λ fault. IsTurnFault D.told (MaySkip (count ≡ progress.now.size))
+        (register_disk register) fault) }
 {
     if count == progress.size {
         count_shown(&mut register)?;
@@ -377,6 +387,10 @@ where
     ensures sound { OnOk result (I.Disk.told.tells
         → IsRegister (I.Disk.told.reading (register_disk register))
         → IsSound (I.Disk.told.reading (register_disk register))) }
+    ensures moves { IfOk result (λ found. Moves I.Disk.told (MayPass I.told.tells (I.told.part inbox.old))
+        (register_disk register) (register_disk found.register)) }
+    ensures part { IfOk result (λ found. IfSome found.part (λ disk.
+        LyingTaken I.told I.Disk.told inbox.old ((register_value register).1 - 1) disk)) }
     ensures shown { I.told.shown inbox.new ≡ I.told.shown inbox.old }
     ensures turns { Turns I.told (λ names. ⊥) inbox.old inbox.new }
     ensures later { I.told.count inbox.old ≤ I.told.count inbox.new }
@@ -425,6 +439,8 @@ where
         → IsFoundAt I.told I.Disk.told inbox.new found 0 Between) }
     ensures own { OnOk result (I.told.tells → I.Disk.told.tells
         → RegisterReads I.told inbox.old IsOwn) }
+    ensures during { IfOk result (λ found. IsLeftOf I.told I.Disk.told inbox.old
+        (register_disk found.register) found.part) }
     ensures shown { I.told.shown inbox.new ≡ I.told.shown inbox.old }
     ensures turns { Turns I.told (λ names. ⊥) inbox.old inbox.new }
     ensures later { I.told.count inbox.old ≤ I.told.count inbox.new }

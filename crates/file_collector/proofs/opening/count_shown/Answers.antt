@@ -11,3 +11,9 @@ returns-in-Ok-clause-counted g c = λ count state kept.
       settled = e.settled;
       stands = λ told. let turned = e.turned Between refl told in turned.more count state (kept.stands told) tt;
     }
+
+pub returns-in-Ok-clause-moves : goal.returns-in-Ok-clause-moves
+returns-in-Ok-clause-moves g c = c.turn.ensures.moves Between refl
+
+pub returns-in-Err-clause-moves : goal.returns-in-Err-clause-moves
+returns-in-Err-clause-moves g c = c.turn.ensures.moves Between refl

@@ -1,4 +1,4 @@
-use Rattle.std.proofs.Common.{◌≡◌, ◌<◌, ℕ, suc, length, None, sym, ◌∙◌, ap, subst, arith}
+use Rattle.std.proofs.Common.{◌≡◌, ◌<◌, ℕ, suc, length, None, IfSome, refl, sym, ◌∙◌, ap, subst, arith}
 use Rattle.file_messages.specs.Files.{State, Between, Inside}
 use Rattle.stable_buffer.specs.Register.{register_disk, register_value}
 use Rattle.stable_buffer.specs.declared.register.Register.{Register}
@@ -6,8 +6,11 @@ use Rattle.folders.specs.Placing.{Part, first_of}
 use Rattle.file_collector.specs.Registers.{IsKept, held}
 use Rattle.file_collector.specs.Gathering.{IsWellBegun, PartStands}
 use Rattle.file_collector.specs.Opening.{IsFoundAt, lying_part}
-use Rattle.file_collector.specs.Closed.{IsFindFault, IsWhyClosed}
-use Rattle.file_collector.proofs.Found.{if_ok, on_ok_by, found_between, none_held, some_held}
+use Rattle.disk_model.specs.Disk.{Same}
+use Rattle.disk_model.proofs.Run.{started}
+use Rattle.file_collector.specs.Closed.{IsFindFault, IsWhyClosed, GaveRegister, GavePart}
+use Rattle.file_collector.proofs.Crashes.{gave_on, part_by, same_passes, if_some_by}
+use Rattle.file_collector.proofs.Found.{both_ok, if_ok, on_ok_by, found_between, none_held, some_held}
 use Rattle.file_collector.proofs.Resumes.{turns_on}
 use Rattle.file_collector.proofs.Sound.{sound_between}
 use Rattle.file_collector.proofs.Causes.{if_err, value_read, closed_by, own_by}
@@ -80,7 +83,7 @@ returns-clause-cause g c =
     let register = c.in_ok-register.register in
     let some : 0 < register.second = omega (arith, c.if-value-eq0.false, ap (λ (v : ℕ × ℕ). v.1) c.value.ensures) in
     if_err c.find_part.result (λ fault. IsFindFault mi md c.take_register.new.inbox c.find_part.new.inbox register fault) (λ fault. IsWhyClosed mi md c.args.inbox.now c.find_part.new.inbox fault)
-    (λ fault. closed_by mi md c.args.inbox.now c.take_register.new.inbox c.find_part.new.inbox register fault r.taken r.register.ready some r.later r.stays.part)
+    (λ fault. closed_by mi md c.args.inbox.now c.take_register.new.inbox c.find_part.new.inbox register fault r.taken r.register.ready r.register.settled some r.later r.stays.part r.found)
     c.find_part.ensures.cause
 
 pub returns-then-value-eq0-clause-new : goal.returns-then-value-eq0-clause-new
@@ -115,3 +118,32 @@ returns-clause-own g c =
 
 pub returns-clause-turns : goal.returns-clause-turns
 returns-clause-turns g c = turns_on g.I.Inbox.told c.args.inbox.now c.take_register.new.inbox c.find_part.new.inbox c.in_ok-register.ensures.stays.turns c.find_part.ensures.turns
+
+pub returns-then-value-eq0-clause-during : goal.returns-then-value-eq0-clause-during
+returns-then-value-eq0-clause-during g c =
+    let mi = g.I.Inbox.told in
+    let md = g.I.Disk.Disk.told in
+    let old = c.args.inbox.now in
+    let taken = c.take_register.new.inbox in
+    let r = c.in_ok-register.ensures in
+    let b = c.between.ensures in
+    let disk = register_disk c.in_ok-register.register in
+    record {
+      of_register = subst (λ (q : Register _). GaveRegister mi md old (register_disk q)) (sym b.register)
+          (gave_on mi md old taken c.in_ok-register.register disk r.taken r.register.settled r.stays.part (same_passes md mi.tells (mi.part taken) disk disk (started md Same (λ c. refl) disk)));
+      of_part = subst (λ p. IfSome p (λ disk. GavePart mi md old disk)) (sym b.part) tt;
+    }
+
+pub returns-clause-during : goal.returns-clause-during
+returns-clause-during g c =
+    let mi = g.I.Inbox.told in
+    let md = g.I.Disk.Disk.told in
+    let old = c.args.inbox.now in
+    let taken = c.take_register.new.inbox in
+    let r = c.in_ok-register.ensures in
+    let register = c.in_ok-register.register in
+    if_ok c.find_part.result _ _ (λ found (moves, part). record {
+      of_register = gave_on mi md old taken register (register_disk found.register) r.taken r.register.settled r.stays.part moves;
+      of_part = if_some_by found.part _ _ (λ disk is. part_by mi md old taken register disk r.stays.part r.found is) part;
+    })
+    (both_ok c.find_part.result _ _ c.find_part.ensures.moves c.find_part.ensures.part)

@@ -6,7 +6,10 @@ use Rattle.folders.specs.Placing.{Given, first_of}
 use Rattle.file_collector.specs.Opening.{HasFed}
 use Rattle.file_collector.proofs.Found.{if_ok, on_ok, both_ok, progress_size, progress_name, found_some, part_found, kept_same, register_same, none_not, found_begun, found_between}
 use Rattle.file_collector.proofs.Sound.{sound_begun}
-use Rattle.file_collector.proofs.Causes.{value_read, past_end}
+use Rattle.file_collector.proofs.Causes.{value_read, past_end, if_err}
+use Rattle.file_collector.specs.Making.{IsRegister}
+use Rattle.file_collector.specs.Closed.{IsSound}
+use Rattle.file_collector.proofs.Crashes.{Known, known_by, same_passes, skips_pass, find_fault}
 use Rattle.file_collector.proofs.opening.find_part.Goals as goal
 use Rattle.file_collector.proofs.opening.find_part.Goals.{then-count-ge-LIMIT-via-then-count-ge-LIMIT, then-count-ge-LIMIT-via-else-count-ge-LIMIT+then-held-progress}
 
@@ -118,3 +121,48 @@ returns-in-Some-2-clause-lost g c = λ told tells count name size bytes kept beg
     let r = c.in_ok-assembly.ensures in
     let held : c.value-count.result.1 ≡ suc (length bytes) = ap (λ (v : ℕ × ℕ). v.1) (c.value-count.ensures ∙ r.value ∙ kept.value) in
     absurd (found_some g.I.Disk.Disk.told _ c.in-Some-2.part (c.value-count.result.1 - 1) (length bytes) (g.I.Inbox.told.part c.args.inbox.now) c.in-Some-2.is (c.in_ok-part.ensures.found told tells) (omega (arith, held)) few)
+
+pub returns-in-Some-2-clause-moves : goal.returns-in-Some-2-clause-moves
+returns-in-Some-2-clause-moves g c =
+    let mi = g.I.Inbox.told in
+    same_passes g.I.Disk.Disk.told mi.tells (mi.part c.args.inbox.now) (register_disk c.args.register) (register_disk c.read_start.new.register) c.read_start.ensures.moves
+
+pub returns-in-None-clause-moves : goal.returns-in-None-clause-moves
+returns-in-None-clause-moves g c =
+    let md = g.I.Disk.Disk.told in
+    let mi = g.I.Inbox.told in
+    let r = c.in_ok-assembly.ensures in
+    let e = c.in_ok-part.ensures in
+    let v = c.value-count.result in
+    let part = mi.part c.args.inbox.now in
+    let disk = md.reading (register_disk c.args.register) in
+    let same : v ≡ register_value c.args.register = c.value-count.ensures ∙ r.value in
+    let some : 0 < v.1 = subst (λ (v : ℕ × ℕ). 0 < v.1) (sym same) c.requires.begun in
+    let known : md.tells → Known mi.tells part (v.1 - 1 ≡ c.in-Some.progress.size) disk = λ tells.
+    let is : value_of disk ≡ v = value_read md c.args.register c.requires.register.ready tells ∙ sym same in
+    let sound : IsRegister disk → IsSound disk = λ register.
+    sound_begun disk v c.in_ok-assembly.assembly c.in-Some.progress c.progress.result c.in-Some.is c.progress.ensures is (omega (arith, c.if-count-ge-LIMIT.false)) some (omega (arith, c.if-held-progress.false)) (r.by tells) register in
+    let none : mi.tells → None ≡ first_of (v.1 - 1) part = λ told. ap (option_map md.reading) (sym c.in-None.is) ∙ e.found told tells in
+    known_by mi.tells disk v is some c.in_ok-assembly.assembly c.in-Some.progress c.progress.result c.in-Some.is c.progress.ensures (r.found tells) part none sound in
+    if_ok c.without_part.result _ _ (λ found moves. skips_pass md mi.tells part (v.1 - 1 ≡ c.in-Some.progress.size) (register_disk c.args.register) (register_disk c.read_start.new.register) (register_disk found.register)
+    c.requires.register.settled known c.read_start.ensures.moves moves) c.without_part.ensures.moves
+
+pub returns-in-None-clause-cause : goal.returns-in-None-clause-cause
+returns-in-None-clause-cause g c =
+    let md = g.I.Disk.Disk.told in
+    let mi = g.I.Inbox.told in
+    let r = c.in_ok-assembly.ensures in
+    let e = c.in_ok-part.ensures in
+    let v = c.value-count.result in
+    let part = mi.part c.args.inbox.now in
+    let disk = md.reading (register_disk c.args.register) in
+    let same : v ≡ register_value c.args.register = c.value-count.ensures ∙ r.value in
+    let some : 0 < v.1 = subst (λ (v : ℕ × ℕ). 0 < v.1) (sym same) c.requires.begun in
+    let known : md.tells → Known mi.tells part (v.1 - 1 ≡ c.in-Some.progress.size) disk = λ tells.
+    let is : value_of disk ≡ v = value_read md c.args.register c.requires.register.ready tells ∙ sym same in
+    let sound : IsRegister disk → IsSound disk = λ register.
+    sound_begun disk v c.in_ok-assembly.assembly c.in-Some.progress c.progress.result c.in-Some.is c.progress.ensures is (omega (arith, c.if-count-ge-LIMIT.false)) some (omega (arith, c.if-held-progress.false)) (r.by tells) register in
+    let none : mi.tells → None ≡ first_of (v.1 - 1) part = λ told. ap (option_map md.reading) (sym c.in-None.is) ∙ e.found told tells in
+    known_by mi.tells disk v is some c.in_ok-assembly.assembly c.in-Some.progress c.progress.result c.in-Some.is c.progress.ensures (r.found tells) part none sound in
+    if_err c.without_part.result _ _ (λ fault is. find_fault mi md c.args.inbox.now _ c.args.register c.read_start.new.register (v.1 - 1 ≡ c.in-Some.progress.size)
+    c.requires.register.settled known c.read_start.ensures.moves c.read_start.ensures.later fault is) c.without_part.ensures.cause

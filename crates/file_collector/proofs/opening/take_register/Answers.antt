@@ -1,7 +1,8 @@
 use Rattle.std.proofs.Common.{◌≡◌, List, ℕ, Some, Result, Ok, Err, IfOk, sym, ◌∙◌, subst}
 use Rattle.file_collector.specs.Registers.{RegisterStands}
 use Rattle.file_collector.specs.Making.{IsUnmade}
-use Rattle.file_collector.proofs.Causes.{unmade_not}
+use Rattle.file_collector.proofs.Made.{unmade_not}
+use Rattle.file_collector.proofs.Causes.{if_err, closed_at}
 use Rattle.file_collector.proofs.opening.take_register.Goals as goal
 
 if_ok : {T E : Type 0} (r : Result T E) (P Q : T → Type 0) → ((t : T) → P t → Q t) → IfOk r P → IfOk r Q
@@ -26,3 +27,10 @@ returns-in-Ok-clause-new g c =
     if_ok c.open_register.result _ _ (λ register new told tells reads.
     new (λ yes. unmade_not (md.reading c.in-Ok.disk) (subst IsUnmade (some_is reads.bytes (md.reading c.in-Ok.disk) (sym reads.reads ∙ e.reads told)) reads.holds)) tells)
     c.open_register.ensures.new
+
+pub returns-in-Ok-clause-cause : goal.returns-in-Ok-clause-cause
+returns-in-Ok-clause-cause g c =
+    let mi = g.I.Inbox.told in
+    let md = g.I.Disk.Disk.told in
+    let e = c.in-Ok.ensures in
+    if_err c.open_register.result _ _ (λ fault is. closed_at mi md c.args.inbox.now _ c.in-Ok.disk fault e.reads e.settled is) c.open_register.ensures.cause

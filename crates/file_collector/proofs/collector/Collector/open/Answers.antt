@@ -6,6 +6,8 @@ use Rattle.file_collector.proofs.Opens.{opens_here, opened_as}
 use Rattle.file_messages.specs.Files.{Between, Inside}
 use Rattle.folders.specs.Placing.{Turns}
 use Rattle.file_collector.specs.Gathering.{IsGathering}
+use Rattle.stable_buffer.specs.Register.{register_disk}
+use Rattle.file_collector.specs.Closed.{IsLeftOf}
 use Rattle.file_collector.proofs.Causes.{called_by}
 use Rattle.file_collector.proofs.collector.Collector.open.Goals as goal
 
@@ -46,3 +48,9 @@ returns-in-Ok-clause-lost g c = λ told tells count name size held reads begun.
       shown = λ few whole. opened_as mi md c.find.new.inbox c.in-Ok.found (count + 1) Between None (e.ahead told tells count name size held reads.bytes reads.reads reads.holds begun few whole);
       lost = λ few some. opened_as mi md c.find.new.inbox c.in-Ok.found count Between (Some name) (e.lost told tells count name size held reads.bytes reads.reads reads.holds begun few some);
     })
+
+pub returns-in-Ok-clause-during : goal.returns-in-Ok-clause-during
+returns-in-Ok-clause-during g c =
+    let mi = g.I.Inbox.told in
+    let md = g.I.Disk.Disk.told in
+    subst (λ (gatherer : Gatherer _ _). IsLeftOf mi md c.args.inbox (register_disk c.in-Ok.found.register) gatherer.part) (sym c.over.ensures) c.in-Ok.ensures.during

@@ -76,12 +76,14 @@ impl<'a, R: Files<File = File>> FileInbox<'a, R> {
         hidden_name(self.session, ".part")
     }
 
-    // An empty file is a new register, as a missing one is. The folder is synced before the file is handed
-    // out, since it may have been copied or moved there by others.
+    // An empty file is a new register, as a missing one is. The file and the folder are synced before the
+    // file is handed out: one whose process was killed may have left bytes that no sync covered, and others
+    // may have copied or moved it there.
     fn open_register(&self) -> io::Result<File> {
         let name = hidden_name(self.session, ".files");
         match self.folder.open_file(self.files, name.as_str(), true)? {
             Some(file) => {
+                file.sync_all()?;
                 self.folder.sync()?;
                 Ok(file)
             }

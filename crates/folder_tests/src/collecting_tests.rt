@@ -196,7 +196,7 @@ fn closed(
 fn a_call_that_fails_costs_no_file(rt: HostRuntime) -> Result<(), Fail> {
     for (failing, calls, found) in [
         (Part::Folder, 20, 4),
-        (Part::Register, 70, 44),
+        (Part::Register, 70, 48),
         (Part::FirstPart, 4, 0),
     ] {
         assert_eq!(rt; closed(rt.alloc(), failing, calls)?, Ok(found));

@@ -131,7 +131,7 @@ pub record IsTaken {I D : Type 0} (mi : Placing I) (md : Meaning D) (inbox : I) 
   pub settled : Settled md given
   pub opened : IsOpenedOn md given register
 
--- A part has the bytes that were counted, if another has them.
+-- a part has the bytes that were counted, if the old one has them
 abbrev pub KeepsBytes : State → Option (List ℕ) → Option (List ℕ) → Type 0
 KeepsBytes state old new = PartStands state old → PartStands state new
 
@@ -140,8 +140,9 @@ abbrev pub counted_state : {I : Type 0} → {m : Placing I} → {inbox : I} → 
     → OpensOn m inbox messages → State
 counted_state {messages = messages} on = state_after Between (take on.fits.count messages)
 
--- An inbox gave its register's disk, of which this is left. Whatever a crash at any moment between leaves of it fits
--- the messages that the folder fitted, with the names of the folder and with any part that has the counted bytes.
+-- An inbox gave its register's disk, of which this is left; what it gave is known by what it read. Whatever a crash at
+-- any moment between leaves of it fits the messages that the folder fitted, with the names of the folder and with any
+-- part that has the counted bytes.
 pub record GaveRegister {I D : Type 0} (mi : Placing I) (md : Meaning D) (inbox : I) (left : D) : Type 0 where
   pub given : D
   pub reads : mi.tells → mi.register inbox ≡ Some (md.reading given)

@@ -70,8 +70,8 @@ where
 
         // Whatever a crash inside leaves of the register's disk, from the moment on that the inbox gave it, fits
         // the messages that the folder fitted, with its names and any part that has the counted bytes; and a
-        // part that it gave has these. After an error the disks are gone: `cause` says the same of one whose
-        // call failed, until that call, and nothing of one that no call of its own failed on.
+        // part that it gave has these. After an error the disks are gone: of one whose call failed `cause` says
+        // the same, until that call; of the register's disk nothing is said where another call failed.
         ensures during { IfOk result (λ c. IsLeftOf I.told I.Disk.told inbox
             (register_disk c.register) c.gatherer.part) }
 

@@ -27,7 +27,14 @@ The words are no command.
   TABLE is the name of a file in this folder: 1 to 64 letters, digits, dots, underscores and dashes, the first a letter or a digit. NEWTABLE is spelled alike, and so is FOLDER, the name of a folder in this one. TIMES are 1 to 16 numbers up to 1000000000 with commas between, as 50,700,20: how many microseconds the receiver takes for each message in turn. LOOKS is at least 1; a look or a round that finds nothing takes about a millisecond. Numbers are written without a sign and without zeros before them, and are below 2^32
   [2]
 
-The first sentence says which word is wrong, and the list of commands follows.
+The first sentence says which word is wrong, and how the command is typed follows.
+
+  $ netpump status t.toml
+  fault words
+  netpump 1.0: the command status takes 2 words and is given 1; type it so:
+    status TABLE S                prints how many messages session S has accepted, removed and received, how many lie in its relay, and how many may; it may run beside the relay
+  TABLE is the name of a file in this folder: * (glob)
+  [2]
 
   $ which() { netpump "$@" 2>&1 >/dev/null | head -n 1 | cut -d';' -f1; }
   $ which; which --version; which show t.toml; which audit record

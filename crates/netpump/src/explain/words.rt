@@ -8,15 +8,32 @@ use std::io;
 /// The version of this program.
 const VERSION: &str = "1.0";
 
-/// The values that a command of this name takes, as the list of all commands has them.
-fn values_of(name: &str) -> Option<&'static str> {
+/// A command, as the list of all commands has it.
+#[derive(Clone, Copy)]
+struct Listed {
+    name: &'static str,
+    values: &'static str,
+    line: &'static str,
+}
+
+/// The command of this name.
+fn find(name: &str) -> Option<Listed> {
     USAGE
         .lines()
-        .filter_map(|line| line.strip_prefix("  "))
-        .filter_map(|line| line.split_once("  "))
-        .map(|(spelled, _)| spelled.split_once(' ').unwrap_or((spelled, "")))
-        .find(|(command, _)| *command == name)
-        .map(|(_, values)| values)
+        .filter_map(listed)
+        .find(|command| command.name == name)
+}
+
+/// The command of a line, if it is one's.
+fn listed(line: &'static str) -> Option<Listed> {
+    let (spelled, _) = line.strip_prefix("  ")?.split_once("  ")?;
+    let (name, values) = spelled.split_once(' ').unwrap_or((spelled, ""));
+    Some(Listed { name, values, line })
+}
+
+/// What the values of all commands may be, which stands behind them.
+fn values_in_words() -> &'static str {
+    USAGE.rsplit_once('\n').map_or("", |(_, last)| last)
 }
 
 /// These words, with 1 in place of each value but the one in this place. 1 may stand for every value.
@@ -54,8 +71,9 @@ fn first_wrong<'a>(
     Some((value, word(words, place)?))
 }
 
-fn explain_values(rt: &HostRuntime, name: &str, values: &str, words: &[String]) -> io::Result<()> {
-    let count = words.len().saturating_sub(1);
+fn explain_values(rt: &HostRuntime, command: &Listed, words: &[String]) -> io::Result<()> {
+    let Listed { name, values, line } = command;
+    let (count, rest) = (words.len().saturating_sub(1), values_in_words());
     let wanted = if values.is_empty() {
         0
     } else {
@@ -63,21 +81,21 @@ fn explain_values(rt: &HostRuntime, name: &str, values: &str, words: &[String]) 
     };
     if count != wanted {
         return eprintln!(rt;
-            "netpump {VERSION}: the command {name} takes {wanted} words and is given {count}; {USAGE}"
+            "netpump {VERSION}: the command {name} takes {wanted} words and is given {count}; type it so:\n{line}\n{rest}"
         );
     }
     match first_wrong(rt.alloc(), values, words) {
         Some((value, word)) => eprintln!(rt;
-            "netpump {VERSION}: the word '{word}' can't stand for {value} of {name}; {USAGE}"
+            "netpump {VERSION}: the word '{word}' can't stand for {value} of {name}; type it so:\n{line}\n{rest}"
         ),
         None => eprintln!(rt; "netpump {VERSION}: these words are no command; {USAGE}"),
     }
 }
 
-/// Says which word is wrong, and lists all commands.
+/// Says which word is wrong, and how the command is typed, or which commands there are.
 pub fn explain_words(rt: &HostRuntime, words: &[String]) -> io::Result<()> {
-    match (word(words, 0), word(words, 0).and_then(values_of)) {
-        (Some(name), Some(values)) => explain_values(rt, name, values, words),
+    match (word(words, 0), word(words, 0).and_then(find)) {
+        (Some(_), Some(command)) => explain_values(rt, &command, words),
         (Some(name), None) => eprintln!(rt;
             "netpump {VERSION}: the word '{name}' is no command; {USAGE}"
         ),

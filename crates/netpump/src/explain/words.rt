@@ -20,12 +20,12 @@ struct Listed {
 fn find(name: &str) -> Option<Listed> {
     USAGE
         .lines()
-        .filter_map(listed)
+        .filter_map(command_in)
         .find(|command| command.name == name)
 }
 
 /// The command of a line, if it is one's.
-fn listed(line: &'static str) -> Option<Listed> {
+fn command_in(line: &'static str) -> Option<Listed> {
     let (spelled, _) = line.strip_prefix("  ")?.split_once("  ")?;
     let (name, values) = spelled.split_once(' ').unwrap_or((spelled, ""));
     Some(Listed { name, values, line })

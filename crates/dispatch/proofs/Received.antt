@@ -15,7 +15,7 @@ use Rattle.peers.specs.declared.receive.ReceiveEnd.{ReceiveEnd}
 use Rattle.serving.specs.Doors.{LinksTell}
 use Rattle.command_ends.specs.CommandEnds.{NamesFailed}
 use Rattle.commands.specs.LentDisks.{LeavesOtherDisks}
-use Rattle.dispatch.specs.Receptions.{ReceivesOver, ReceivesFor, ReceiveComes}
+use Rattle.dispatch.specs.Receptions.{ReceivesFor, ReceiveComes}
 use Rattle.command_ends.specs.Tables.{HasRow}
 use Rattle.command_ends.specs.declared.command_end.CommandEnd.{CommandEnd}
 
@@ -40,11 +40,6 @@ module _ {D L : Type 0} (t : LinksTell L) (looks : ℕ) (ports now_ports : List 
       subst (λ (places : Places). ReceivesFor t looks ports now_ports written out_faults (reading_at places row.id roles.Recv) (reading_at after row.id roles.Recv) row end mid mid_faults) same h,
     ),
   )
-
--- the receiver's disk read at its opening what it did before
-pub found_again : {D L : Type 0} (t : LinksTell L) (looks : ℕ) (ports now_ports : List (PortsStep L D) → Type 0) (written : Option (List ℕ)) (out_faults : ℕ) (found old left : List ℕ) (row : SessionRow) (end : CommandEnd) (mid : Option (List ℕ)) (mid_faults : ℕ)
-    → old ≡ found → ReceivesOver t looks ports now_ports written out_faults old left row end mid mid_faults → ReceivesOver t looks ports now_ports written out_faults found left row end mid mid_faults
-found_again t looks ports now_ports written out_faults found old left row end mid mid_faults same h = subst (λ (x : List ℕ). ReceivesOver t looks ports now_ports written out_faults x left row end mid mid_faults) same h
 
 -- the receiver worked with the room of its disk
 pub sized : (row : SessionRow) (size looks : ℕ) (start : Place) (x : Reception) (counts : Counts) (end : ReceiveEnd) → size ≡ receiver_size → Receives row size looks start x counts end → Receives row receiver_size looks start x counts end

@@ -26,81 +26,39 @@ use Rattle.serving.specs.declared.session.SessionEnd.{SessionEnd}
 use Rattle.serving.specs.declared.session.SessionEnd.TheVariants as session_ends
 use Rattle.command_ends.specs.CommandEnds.{NamesFailed}
 use Rattle.commands.specs.LentDisks.{LeavesBut}
+use Rattle.dispatch.specs.Causes.{Causes, IsCaused}
 use Rattle.dispatch.specs.Servings.{DisksTell, FileTells, SourceTells, StopsAtShelf, GivesRow, end_of_workers, end_of_session, ServesFor, ServeComes}
 use Rattle.command_ends.specs.declared.command_end.CommandEnd.{CommandEnd}
-use Rattle.command_ends.specs.declared.command_end.CommandEnd.TheVariants.{Memory, Unread, Failed, Unwritten, Unconnected}
+use Rattle.command_ends.specs.declared.command_end.CommandEnd.TheVariants.{Memory, Failed}
 use Rattle.commands.proofs.LentDisks.{rises_back}
-use Rattle.dispatch.proofs.Sent.{refused_device, refused_never, refused_role}
+use Rattle.dispatch.proofs.Sent.{refused_caused}
 
 -- ---- the workers ----
 
-workers_unwritten : (low high : RoundsEnd) → end_of_workers low high ≡ Unwritten → is_kept_by (Some low) ≡ false
-workers_unwritten rounds.RecordFailed high e = refl
-workers_unwritten (rounds.Device faults) high e = absurd (cc)
-workers_unwritten rounds.Rounds rounds.Rounds e = absurd (cc)
-workers_unwritten rounds.Rounds (rounds.Device faults) e = absurd (cc)
-workers_unwritten rounds.Rounds rounds.RecordFailed e = absurd (cc)
+module _ {S : Type 0} (m : Meaning S) (low high now_low now_high : S) (c : Causes) (device : (role : Role) → RoseAt m role low high now_low now_high → c.device role) where
+  workers_caused : (l h : RoundsEnd) → CountsEnd (Some l) (m.count low) (m.count now_low) → CountsEnd (Some h) (m.count high) (m.count now_high)
+      → (is_kept_by (Some l) ≡ false → c.unwritten) → IsCaused c (end_of_workers l h)
+  workers_caused rounds.RecordFailed h cl ch unwritten = unwritten refl
+  workers_caused (rounds.Device faults) h cl ch unwritten = device roles.Low cl.1
+  workers_caused rounds.Rounds (rounds.Device faults) cl ch unwritten = device roles.High ch.1
+  workers_caused rounds.Rounds rounds.Rounds cl ch unwritten = tt
+  workers_caused rounds.Rounds rounds.RecordFailed cl ch unwritten = tt
 
-workers_never : (low high : RoundsEnd) → (end_of_workers low high ≡ Unread → ⊥) × (end_of_workers low high ≡ Memory → ⊥) × (end_of_workers low high ≡ Unconnected → ⊥)
-workers_never rounds.RecordFailed high = ((λ e. cc), (λ e. cc), λ e. cc)
-workers_never (rounds.Device faults) high = ((λ e. cc), (λ e. cc), λ e. cc)
-workers_never rounds.Rounds rounds.Rounds = ((λ e. cc), (λ e. cc), λ e. cc)
-workers_never rounds.Rounds (rounds.Device faults) = ((λ e. cc), (λ e. cc), λ e. cc)
-workers_never rounds.Rounds rounds.RecordFailed = ((λ e. cc), (λ e. cc), λ e. cc)
+  -- ---- the session ----
 
-module _ {S : Type 0} (m : Meaning S) (low high now_low now_high : S) where
-  workers_device : (role : Role) (l h : RoundsEnd) → CountsEnd (Some l) (m.count low) (m.count now_low) → CountsEnd (Some h) (m.count high) (m.count now_high)
-      → end_of_workers l h ≡ Failed role → RoseAt m role low high now_low now_high
-  workers_device roles.Low (rounds.Device faults) h cl ch e = cl.1
-  workers_device roles.High (rounds.Device faults) h cl ch e = absurd (cc)
-  workers_device roles.Recv (rounds.Device faults) h cl ch e = absurd (cc)
-  workers_device roles.Low rounds.Rounds (rounds.Device faults) cl ch e = absurd (cc)
-  workers_device roles.High rounds.Rounds (rounds.Device faults) cl ch e = ch.1
-  workers_device roles.Recv rounds.Rounds (rounds.Device faults) cl ch e = absurd (cc)
-  workers_device role rounds.Rounds rounds.Rounds cl ch e = absurd (cc)
-  workers_device role rounds.Rounds rounds.RecordFailed cl ch e = absurd (cc)
-  workers_device role rounds.RecordFailed h cl ch e = absurd (cc)
-
-  -- the disk that is named failed
-  pub session_device : (row : SessionRow) (end : SessionEnd) (role : Role) → OpensBy m row low high now_low now_high end
+  session_caused : (row : SessionRow) (end : SessionEnd) → OpensBy m row low high now_low now_high end
       → IfEnded end (λ ends. CountsEnd (Some ends.low) (m.count low) (m.count now_low)) → IfEnded end (λ ends. CountsEnd (Some ends.high) (m.count high) (m.count now_high))
-      → end_of_session end ≡ Failed role → RoseAt m role low high now_low now_high
-  session_device row session_ends.Memory role opens cl ch e = absurd (cc)
-  session_device row (session_ends.Refused named why) role opens cl ch e =
-      subst (λ (r : Role). RoseAt m r low high now_low now_high) (refused_role named role why e) (opens.0 (refused_device named role why e))
-  session_device row session_ends.NoDoor role opens cl ch e = absurd (cc)
-  session_device row session_ends.NoThread role opens cl ch e = absurd (cc)
-  session_device row (session_ends.Ended ends) role opens cl ch e = workers_device role ends.low ends.high cl ch e
+      → IfEnded end (λ ends. is_kept_by (Some ends.low) ≡ false → c.unwritten) → (has_run end ≡ false → c.memory) → (end ≡ session_ends.NoDoor → c.link) → IsCaused c (end_of_session end)
+  session_caused row session_ends.Memory opens cl ch unwritten memory link = memory refl
+  session_caused row (session_ends.Refused role why) opens cl ch unwritten memory link = refused_caused c role why (λ is. device role (opens.0 is))
+  session_caused row session_ends.NoDoor opens cl ch unwritten memory link = link refl
+  session_caused row session_ends.NoThread opens cl ch unwritten memory link = memory refl
+  session_caused row (session_ends.Ended ends) opens cl ch unwritten memory link = workers_caused ends.low ends.high cl ch unwritten
 
--- ---- the session ----
-
-pub session_memory : (end : SessionEnd) → end_of_session end ≡ Memory → has_run end ≡ false
-session_memory session_ends.Memory e = refl
-session_memory (session_ends.Refused role why) e = refl
-session_memory session_ends.NoDoor e = refl
-session_memory session_ends.NoThread e = refl
-session_memory (session_ends.Ended ends) e = absurd ((workers_never ends.low ends.high).1 e)
-
-pub session_readable : (end : SessionEnd) → end_of_session end ≡ Unread → ⊥
-session_readable session_ends.Memory e = cc
-session_readable (session_ends.Refused role why) e = (refused_never role why).0 e
-session_readable session_ends.NoDoor e = cc
-session_readable session_ends.NoThread e = cc
-session_readable (session_ends.Ended ends) e = (workers_never ends.low ends.high).0 e
-
-pub session_link : (end : SessionEnd) → end_of_session end ≡ Unconnected → end ≡ session_ends.NoDoor
-session_link session_ends.Memory e = absurd (cc)
-session_link (session_ends.Refused role why) e = absurd ((refused_never role why).2 e)
-session_link session_ends.NoDoor e = refl
-session_link session_ends.NoThread e = absurd (cc)
-session_link (session_ends.Ended ends) e = absurd ((workers_never ends.low ends.high).2 e)
-
-pub session_unwritten : (end : SessionEnd) (R : Type 0) (P : WorkersEnd → Type 0) → IfEnded end P → ((ends : WorkersEnd) → P ends → is_kept_by (Some ends.low) ≡ false → R) → end_of_session end ≡ Unwritten → R
-session_unwritten session_ends.Memory R P h f e = absurd (cc)
-session_unwritten (session_ends.Refused role why) R P h f e = absurd ((refused_never role why).3 e)
-session_unwritten session_ends.NoDoor R P h f e = absurd (cc)
-session_unwritten session_ends.NoThread R P h f e = absurd (cc)
-session_unwritten (session_ends.Ended ends) R P h f e = f ends h (workers_unwritten ends.low ends.high e)
+  pub served_caused : (row : SessionRow) (end : SessionEnd) (result : CommandEnd) → result ≡ end_of_session end → OpensBy m row low high now_low now_high end
+      → IfEnded end (λ ends. CountsEnd (Some ends.low) (m.count low) (m.count now_low)) → IfEnded end (λ ends. CountsEnd (Some ends.high) (m.count high) (m.count now_high))
+      → IfEnded end (λ ends. is_kept_by (Some ends.low) ≡ false → c.unwritten) → (has_run end ≡ false → c.memory) → (end ≡ session_ends.NoDoor → c.link) → IsCaused c result
+  served_caused row end result is opens cl ch unwritten memory link = subst (IsCaused c) (sym is) (session_caused row end opens cl ch unwritten memory link)
 
 -- what holds where the workers ran, and where they did not
 pub either_way : (end : SessionEnd) (R : Type 0) (P : WorkersEnd → Type 0) → IfEnded end P → ((ends : WorkersEnd) → P ends → R) → (has_run end ≡ false → R) → R

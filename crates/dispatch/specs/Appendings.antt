@@ -1,5 +1,5 @@
 -- How a call of `append` comes to its end.
-use Rattle.std.specs.Prelude.{◌≡◌, ◌⊎◌, ℕ, ◌+◌, ◌-◌, ◌^◌, min, Bool, true, false, List, [], Option}
+use Rattle.std.specs.Prelude.{◌≡◌, ◌⊎◌, ℕ, ◌+◌, ◌-◌, ◌^◌, min, List, [], Option}
 use Rattle.std.specs.Io.KnownBytes.{Appends}
 use Rattle.pump_frame.specs.Counts.{Rose}
 use Rattle.pump_frame.specs.declared.row.SessionRow.{SessionRow}
@@ -23,10 +23,6 @@ end_of_appender appender.Script lines next = BadLine (min (lines + 1) (2 ^ 32 - 
 end_of_appender (appender.Refused code number) lines next = Denied code number
 end_of_appender appender.Unfinished lines next = Unfinished next
 end_of_appender (appender.Elsewhere number) lines next = Ahead next number
-
-abbrev pub is_write : AppendEnd → Bool
-is_write appender.Write = true
-is_write _ = false
 
 -- the last line was written, or a prefix of it; where a line could not be written before, nothing was
 abbrev pub TellsEnd : ℕ → AppendEnd → ℕ → ℕ → Option (List ℕ) → Option (List ℕ) → CommandEnd → Type 0

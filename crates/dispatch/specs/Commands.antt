@@ -1,5 +1,5 @@
 -- Which commands `batch` runs and which `live` does.
-use Rattle.std.specs.Prelude.{◌≡◌, ◌⊎◌, ℕ, Bool, true, false, List, [], ◌∷◌, Option, codes}
+use Rattle.std.specs.Prelude.{◌≡◌, ◌⊎◌, ℕ, Bool, true, false, List, [], ◌∷◌, codes}
 use Rattle.command_line.specs.Commands.{AreWordsOf}
 use Rattle.command_line.specs.declared.command.Command.{Command}
 use Rattle.command_line.specs.declared.command.Command.TheVariants.{Race, Serve, Receive, Send, Append, Wrap, Messages}

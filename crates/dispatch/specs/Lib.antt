@@ -1,4 +1,5 @@
 pub mod Appendings
+pub mod Causes
 pub mod Chains
 pub mod Commands
 pub mod LiveEnds

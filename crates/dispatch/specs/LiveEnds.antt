@@ -2,13 +2,6 @@
 use Rattle.std.specs.Prelude.{◌≤◌, ℕ, List, Option}
 use Rattle.command_ends.specs.CommandEnds.{Closes}
 use Rattle.command_ends.specs.declared.command_end.CommandEnd.{CommandEnd}
-use Rattle.command_ends.specs.declared.command_end.CommandEnd.TheVariants.{Failed, Refused}
-
--- no disk is the cause
-abbrev pub IsNoDiskEnd : CommandEnd → Type 0
-IsNoDiskEnd (Failed role) = ⊥
-IsNoDiskEnd (Refused role why) = ⊥
-IsNoDiskEnd end = Unit {0}
 
 -- A call came to an end when `mid` was written and the sink had failed so often; then it wrote its fault.
 pub record EndsLive (Comes : CommandEnd → Option (List ℕ) → ℕ

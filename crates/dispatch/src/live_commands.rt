@@ -205,17 +205,23 @@ where
             table,
             session,
             looks,
-        } => receive_session(alloc, table, *session, *looks, shelf, high, out),
+        } => receive_session(alloc, table, *session, *looks, shelf, &mut high.ports, out),
         Command::Send {
             table,
             session,
             looks,
-        } => send_session(alloc, table, *session, *looks, shelf, low, script, out),
+        } => {
+            let ports = &mut low.ports;
+            send_session(alloc, table, *session, *looks, shelf, ports, script, out)
+        }
         Command::Append {
             table,
             session,
             looks,
-        } => append_session(alloc, table, *session, *looks, shelf, low, script, out),
+        } => {
+            let ports = &mut low.ports;
+            append_session(alloc, table, *session, *looks, shelf, ports, script, out)
+        }
         _ => refuse_words(out),
     }
 }

@@ -1,19 +1,18 @@
 //! The two workers of a session of the table, over the ports of its row.
 
-ghost use Rattle.std.specs.Prelude.{◌≡◌, ◌⊎◌, ◌<◌, ◌≤◌, [], length, IfSome, Err};
+ghost use Rattle.std.specs.Prelude.{◌≡◌, ◌⊎◌, ◌<◌, ◌≤◌, [], length, IfSome};
 ghost use Rattle.std.specs.Io.KnownBytes.{Appends};
-ghost use Rattle.disk_model.specs.declared.name.Role.{Role as DiskRole};
 ghost use Rattle.pump_frame.specs.Counts.{Rose};
 ghost use Rattle.pump_frame.specs.Rows.{IsLawfulRow};
 ghost use Rattle.relay_side.specs.Sides.{side};
 ghost use Rattle.script_replay.specs.Failing.{FailsAt};
 ghost use Rattle.script_replay.specs.Shelves.{AllAreBack};
 ghost use Rattle.serving.specs.Doors.{doors, links};
+ghost use Rattle.dispatch.specs.Causes.{IsCaused, HasStatusCause};
 ghost use Rattle.dispatch.specs.LiveEnds.{EndsLive};
 ghost use Rattle.commands.specs.LentDisks.{LeavesBut};
-ghost use Rattle.dispatch.specs.Servings.{disks, file, source, end_of_workers, end_of_session, ServesWith, ServesFor};
+ghost use Rattle.dispatch.specs.Servings.{disks, file, source, end_of_workers, end_of_session, ServesFor};
 ghost use Rattle.dispatch.specs.Servings.{ServeComes};
-ghost use Rattle.command_ends.specs.declared.command_end.CommandEnd.TheVariants as ends;
 
 use command_ends::{CommandEnd, finish, row_in_file};
 use command_line::TableName;
@@ -52,60 +51,8 @@ fn end_of_session(end: &SessionEnd) -> CommandEnd
     }
 }
 
-// Over the row of the session, with the key.
-fn serve_row<
-    T: Threads + Wait + Sync,
-    S: Shelf,
-    P: Ports + Send,
-    K: Clock + Send,
-    O: Sink + Send,
-    V: Watch + Sync,
->(
-    rt: &T,
-    alloc: Global,
-    row: &SessionRow,
-    looks: u32,
-    shelf: &mut S,
-    low: &mut RelaySide<P, K>,
-    high: &mut RelaySide<P, K>,
-    key: [u8; 32],
-    out: &mut O,
-    watch: &V,
-) -> CommandEnd
-where
-    S::Disk: Send,
-    P::Link: Send,
-    P::Door: Send,
-    requires lawful { IsLawfulRow row.now }
-    ensures serves { ServesWith (doors P.Door.port P.Door.did P.Door.gives (links P.Link.gives P.Link.sent
-        P.Link.faults)) looks
-        (side P.did P.faults K.reads low.old low.new) (side P.did P.faults K.reads high.old high.new)
-        (disks S.told S.Disk.told shelf.old shelf.new) (O.written out.old) (O.faults out.old)
-        row.now key result (O.written out.new) (O.faults out.new) }
-    ensures others { LeavesBut (S.told.disk shelf.old) (S.told.disk shelf.new) row.now.id }
-    ensures readable { result ≡ ends.Unread → ⊥ }
-    ensures back { S.told.tells → AllAreBack (S.told.disk shelf.old) (S.told.disk shelf.new) }
-    ensures memory { result ≡ ends.Memory → Appends (O.written out.old) (O.written out.new) [] }
-    ensures unwritten { result ≡ ends.Unwritten → Rose (O.faults out.old) (O.faults out.new) }
-    ensures device { (role : DiskRole) → result ≡ ends.Failed role
-        → FailsAt S.told S.Disk.told shelf.old shelf.new row.now.id role }
-    ensures link { result ≡ ends.Unconnected → Rose (P.faults low.old.ports) (P.faults low.new.ports)
-        ⊎ Rose (P.faults high.old.ports) (P.faults high.new.ports) }
-    ensures later { O.faults out.old ≤ O.faults out.new }
-{
-    let disks = match take_pair(shelf, row.id) {
-        Ok(disks) => disks,
-        Err(not_taken) => return untaken(not_taken),
-    };
-    let served = serve_session(
-        rt, alloc, row, disks.low, disks.high, low, high, key, out, watch, looks,
-    );
-    put_pair_back(shelf, row.id, served.low, served.high);
-    end_of_session(&served.end)
-}
-
 // Over the row of the session, with the first 32 bytes of the keys.
-fn serve_keyed<
+fn serve_row<
     T: Threads + Wait + Sync,
     S: Shelf,
     P: Ports + Send,
@@ -136,70 +83,30 @@ where
         (disks S.told S.Disk.told shelf.old shelf.new) (O.written out.old) (O.faults out.old)
         (source Q.left Q.faults keys.old keys.new) row.now result (O.written out.new) (O.faults out.new) }
     ensures others { LeavesBut (S.told.disk shelf.old) (S.told.disk shelf.new) row.now.id }
-    ensures read { result ≡ ends.Unread → Rose (Q.faults keys.old) (Q.faults keys.new)
-        ⊎ IfSome (Q.left keys.old) (λ bytes. length bytes < 32) }
     ensures back { S.told.tells → AllAreBack (S.told.disk shelf.old) (S.told.disk shelf.new) }
-    ensures memory { result ≡ ends.Memory → Appends (O.written out.old) (O.written out.new) [] }
-    ensures unwritten { result ≡ ends.Unwritten → Rose (O.faults out.old) (O.faults out.new) }
-    ensures device { (role : DiskRole) → result ≡ ends.Failed role
-        → FailsAt S.told S.Disk.told shelf.old shelf.new row.now.id role }
-    ensures link { result ≡ ends.Unconnected → Rose (P.faults low.old.ports) (P.faults low.new.ports)
-        ⊎ Rose (P.faults high.old.ports) (P.faults high.new.ports) }
+    ensures cause { IsCaused (record {
+      memory = Appends (O.written out.old) (O.written out.new) [];
+      read = Rose (Q.faults keys.old) (Q.faults keys.new) ⊎ IfSome (Q.left keys.old) (λ bytes. length bytes < 32);
+      unwritten = Rose (O.faults out.old) (O.faults out.new);
+      device = FailsAt S.told S.Disk.told shelf.old shelf.new row.now.id;
+      link = Rose (P.faults low.old.ports) (P.faults low.new.ports)
+          ⊎ Rose (P.faults high.old.ports) (P.faults high.new.ports);
+    }) result }
     ensures later { O.faults out.old ≤ O.faults out.new }
 {
-    match read_key(keys) {
-        Ok(key) => serve_row(rt, alloc, row, looks, shelf, low, high, key, out, watch),
-        Err(_fault) => CommandEnd::Unread,
-    }
-}
-
-// Comes to its end, before the last line is written.
-fn run_serve<
-    T: Threads + Wait + Sync,
-    S: Shelf,
-    P: Ports + Send,
-    K: Clock + Send,
-    Q: Source,
-    O: Sink + Send,
-    V: Watch + Sync,
->(
-    rt: &T,
-    alloc: Global,
-    table: &TableName,
-    session: u32,
-    looks: u32,
-    shelf: &mut S,
-    low: &mut RelaySide<P, K>,
-    high: &mut RelaySide<P, K>,
-    keys: &mut Q,
-    out: &mut O,
-    watch: &V,
-) -> CommandEnd
-where
-    S::Disk: Send,
-    P::Link: Send,
-    P::Door: Send,
-    ensures comes { ServeComes (doors P.Door.port P.Door.did P.Door.gives (links P.Link.gives P.Link.sent
-        P.Link.faults)) looks
-        (side P.did P.faults K.reads low.old low.new) (side P.did P.faults K.reads high.old high.new)
-        (disks S.told S.Disk.told shelf.old shelf.new) (O.written out.old) (O.faults out.old)
-        (source Q.left Q.faults keys.old keys.new) (file S.told shelf.old shelf.new table.now)
-        (FailsAt S.told S.Disk.told shelf.old shelf.new) session result (O.written out.new) (O.faults out.new) }
-    ensures read { result ≡ ends.Unread → Rose (S.told.faults shelf.old) (S.told.faults shelf.new)
-        ⊎ (Rose (Q.faults keys.old) (Q.faults keys.new) ⊎ IfSome (Q.left keys.old) (λ bytes. length bytes < 32)) }
-    ensures back { S.told.tells → AllAreBack (S.told.disk shelf.old) (S.told.disk shelf.new) }
-    ensures memory { result ≡ ends.Memory → Appends (O.written out.old) (O.written out.new) [] }
-    ensures unwritten { result ≡ ends.Unwritten → Rose (O.faults out.old) (O.faults out.new) }
-    ensures device { (role : DiskRole) → result ≡ ends.Failed role
-        → FailsAt S.told S.Disk.told shelf.old shelf.new session role }
-    ensures link { result ≡ ends.Unconnected → Rose (P.faults low.old.ports) (P.faults low.new.ports)
-        ⊎ Rose (P.faults high.old.ports) (P.faults high.new.ports) }
-    ensures later { O.faults out.old ≤ O.faults out.new }
-{
-    match row_in_file(alloc, shelf, table.as_str(), session) {
-        Ok(row) => serve_keyed(rt, alloc, &row, looks, shelf, low, high, keys, out, watch),
-        Err(end) => end,
-    }
+    let key = match read_key(keys) {
+        Ok(key) => key,
+        Err(_fault) => return CommandEnd::Unread,
+    };
+    let disks = match take_pair(shelf, row.id) {
+        Ok(disks) => disks,
+        Err(not_taken) => return untaken(not_taken),
+    };
+    let served = serve_session(
+        rt, alloc, row, disks.low, disks.high, low, high, key, out, watch, looks,
+    );
+    put_pair_back(shelf, row.id, served.low, served.high);
+    end_of_session(&served.end)
 }
 
 /// Serves a session of the table: both workers make `looks` rounds, each at the door of its own port of the
@@ -239,17 +146,21 @@ where
         (FailsAt S.told S.Disk.told shelf.old shelf.new) session) (O.written out.new) (O.faults out.new) session
         result }
     ensures back { S.told.tells → AllAreBack (S.told.disk shelf.old) (S.told.disk shelf.new) }
-    ensures memory { result ≡ 1 → Appends (O.written out.old) (O.written out.new) [] }
-    ensures read { result ≡ 3 → Rose (S.told.faults shelf.old) (S.told.faults shelf.new)
-        ⊎ (Rose (Q.faults keys.old) (Q.faults keys.new) ⊎ IfSome (Q.left keys.old) (λ bytes. length bytes < 32)) }
-    ensures unwritten { result ≡ 4 → Rose (O.faults out.old) (O.faults out.new) }
-    ensures device { result ≡ 7 → Rose (S.told.disk_faults shelf.old) (S.told.disk_faults shelf.new) }
-    ensures link { result ≡ 9 → Rose (P.faults low.old.ports) (P.faults low.new.ports)
-        ⊎ Rose (P.faults high.old.ports) (P.faults high.new.ports) }
-    ensures words { result ≡ 2 → ⊥ }
+    ensures cause { HasStatusCause (record {
+      memory = Appends (O.written out.old) (O.written out.new) [];
+      read = Rose (S.told.faults shelf.old) (S.told.faults shelf.new)
+          ⊎ (Rose (Q.faults keys.old) (Q.faults keys.new) ⊎ IfSome (Q.left keys.old) (λ bytes. length bytes < 32));
+      unwritten = Rose (O.faults out.old) (O.faults out.new);
+      device = λ role. Rose (S.told.disk_faults shelf.old) (S.told.disk_faults shelf.new);
+      link = Rose (P.faults low.old.ports) (P.faults low.new.ports)
+          ⊎ Rose (P.faults high.old.ports) (P.faults high.new.ports);
+    }) result }
 {
-    let end = run_serve(
-        rt, alloc, table, session, looks, shelf, low, high, keys, out, watch,
-    );
-    finish(session, end, out)
+    match row_in_file(alloc, shelf, table.as_str(), session) {
+        Ok(row) => {
+            let end = serve_row(rt, alloc, &row, looks, shelf, low, high, keys, out, watch);
+            finish(session, end, out)
+        }
+        Err(end) => finish(session, end, out),
+    }
 }

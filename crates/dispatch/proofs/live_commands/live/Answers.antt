@@ -57,7 +57,7 @@ returns-in-Serve g c =
     let e = c.serve_table.ensures in
     record {
       words = λ none. elim (none call refl a.are) [ ];
-      known = λ d live words. e.words;
+      known = λ d live words. e.cause.words;
       shelf = λ none. elim (none (inl (_, _, _, a.are))) [ ];
       low_ports = λ none. elim (none (inl (_, _, _, a.are))) [ ];
       high_ports = λ none. elim (none (inl (_, _, _, a.are))) [ ];
@@ -65,11 +65,11 @@ returns-in-Serve g c =
       keys = λ none. elim (none (_, _, _, a.are)) [ ];
       clock = λ none. elim (none (inl (_, _, _, a.are))) [ ];
       back = e.back;
-      memory = e.memory;
-      read = λ three. elim (e.read three) [ inl shelf ↦ inl shelf | inr keys ↦ inr (inr keys) ];
-      unwritten = e.unwritten;
-      device = e.device;
-      link = e.link;
+      memory = e.cause.memory;
+      read = λ three. elim (e.cause.read three) [ inl shelf ↦ inl shelf | inr keys ↦ inr (inr keys) ];
+      unwritten = e.cause.unwritten;
+      device = λ seven. (e.cause.device seven).1;
+      link = e.cause.link;
       race = λ seed count times words. elim (other _ call a (commands.Race seed count (record { items = times })) refl words) [ ];
       serve = λ table session looks words. serve_asked (λ (t : List ℕ) (n l : ℕ). EndsLive (ServeComes (doors g.P.Door.Door.port g.P.Door.Door.did g.P.Door.Door.gives (links g.P.Link.Link.gives g.P.Link.Link.sent g.P.Link.Link.faults)) l (side g.P.Ports.did g.P.Ports.faults g.K.Clock.reads c.args.low.now c.serve_table.new.low) (side g.P.Ports.did g.P.Ports.faults g.K.Clock.reads c.args.high.now c.serve_table.new.high) (disks g.S.Shelf.told g.S.Disk.Disk.told c.args.shelf.now c.serve_table.new.shelf) (g.O.Sink.written c.args.out.now) (g.O.Sink.faults c.args.out.now) (source g.Q.Source.left g.Q.Source.faults c.args.keys.now c.serve_table.new.keys) (file g.S.Shelf.told c.args.shelf.now c.serve_table.new.shelf t) (FailsAt g.S.Shelf.told g.S.Disk.Disk.told c.args.shelf.now c.serve_table.new.shelf) n) (g.O.Sink.written c.serve_table.new.out) (g.O.Sink.faults c.serve_table.new.out) n c.serve_table.result)
           _ table _ session _ looks e.ends call refl (a.only (commands.Serve table session looks) words);
@@ -85,22 +85,22 @@ returns-in-Receive g c =
     let e = c.receive_session.ensures in
     record {
       words = λ none. elim (none call refl a.are) [ ];
-      known = λ d live words. e.words;
+      known = λ d live words. e.cause.words;
       shelf = λ none. elim (none (inr (inl (_, _, _, a.are)))) [ ];
       low_ports = λ none. refl;
       high_ports = λ none. elim (none (inr (_, _, _, a.are))) [ ];
       script = λ none. refl;
-      keys = λ none. (refl, e.clock);
+      keys = λ none. (refl, refl);
       clock = λ none. refl;
       back = e.back;
-      memory = e.memory;
-      read = λ three. inl (e.read three);
-      unwritten = e.unwritten;
-      device = e.device;
-      link = λ nine. inr (e.link nine);
+      memory = e.cause.memory;
+      read = λ three. inl (e.cause.read three);
+      unwritten = e.cause.unwritten;
+      device = λ seven. (e.cause.device seven).1;
+      link = λ nine. inr (e.cause.link nine);
       race = λ seed count times words. elim (other _ call a (commands.Race seed count (record { items = times })) refl words) [ ];
       serve = λ table session looks words. elim (other _ call a (commands.Serve table session looks) refl words) [ ];
-      receive = λ table session looks words told tells. receive_asked (λ (t : List ℕ) (n l : ℕ). EndsLive (ReceiveComes (links g.P.Link.Link.gives g.P.Link.Link.sent g.P.Link.Link.faults) l (g.P.Ports.did c.args.high.now.ports) (g.P.Ports.did c.receive_session.new.high.ports) (g.O.Sink.written c.args.out.now) (g.O.Sink.faults c.args.out.now) (g.S.Shelf.told.file c.args.shelf.now t) (g.S.Shelf.told.disk c.args.shelf.now) (g.S.Shelf.told.disk c.receive_session.new.shelf) (RecvFailsAt g.S.Shelf.told g.S.Disk.Disk.told c.args.shelf.now c.receive_session.new.shelf) n) (g.O.Sink.written c.receive_session.new.out) (g.O.Sink.faults c.receive_session.new.out) n c.receive_session.result)
+      receive = λ table session looks words told tells. receive_asked (λ (t : List ℕ) (n l : ℕ). EndsLive (ReceiveComes (links g.P.Link.Link.gives g.P.Link.Link.sent g.P.Link.Link.faults) l (g.P.Ports.did c.args.high.now.ports) (g.P.Ports.did c.receive_session.new.ports) (g.O.Sink.written c.args.out.now) (g.O.Sink.faults c.args.out.now) (g.S.Shelf.told.file c.args.shelf.now t) (g.S.Shelf.told.disk c.args.shelf.now) (g.S.Shelf.told.disk c.receive_session.new.shelf) (RecvFailsAt g.S.Shelf.told g.S.Disk.Disk.told c.args.shelf.now c.receive_session.new.shelf) n) (g.O.Sink.written c.receive_session.new.out) (g.O.Sink.faults c.receive_session.new.out) n c.receive_session.result)
           _ table _ session _ looks (e.ends told tells) call refl (a.only (commands.Receive table session looks) words);
       send = λ table session looks words. elim (other _ call a (commands.Send table session looks) refl words) [ ];
       append = λ table session looks words. elim (other _ call a (commands.Append table session looks) refl words) [ ];
@@ -113,23 +113,23 @@ returns-in-Send g c =
     let e = c.send_session.ensures in
     record {
       words = λ none. elim (none call refl a.are) [ ];
-      known = λ d live words. e.words;
+      known = λ d live words. e.cause.words;
       shelf = λ none. elim (none (inr (inr (inl (_, _, _, a.are))))) [ ];
       low_ports = λ none. elim (none (inr (inl (_, _, _, a.are)))) [ ];
       high_ports = λ none. refl;
       script = λ none. elim (none (inl (_, _, _, a.are))) [ ];
       keys = λ none. (refl, refl);
-      clock = λ none. e.clock;
+      clock = λ none. refl;
       back = λ told name out. subst (λ (places : Places). IsOut (places name)) e.disks out;
-      memory = e.memory;
-      read = λ three. elim (e.read three) [ inl script ↦ inr (inl script) | inr shelf ↦ inl shelf ];
-      unwritten = e.unwritten;
-      device = λ seven. elim (e.disk.0 seven) [ ];
-      link = λ nine. inl (e.link nine);
+      memory = e.cause.memory;
+      read = λ three. elim (e.cause.read three) [ inl shelf ↦ inl shelf | inr script ↦ inr (inl script) ];
+      unwritten = e.cause.unwritten;
+      device = λ seven. elim (e.cause.device seven).1 [ ];
+      link = λ nine. inl (e.cause.link nine);
       race = λ seed count times words. elim (other _ call a (commands.Race seed count (record { items = times })) refl words) [ ];
       serve = λ table session looks words. elim (other _ call a (commands.Serve table session looks) refl words) [ ];
       receive = λ table session looks words. elim (other _ call a (commands.Receive table session looks) refl words) [ ];
-      send = λ table session looks words told. send_asked (λ (t : List ℕ) (n l : ℕ). EndsLive (SendComes (links g.P.Link.Link.gives g.P.Link.Link.sent g.P.Link.Link.faults) l (g.P.Ports.did c.args.low.now.ports) (g.P.Ports.did c.send_session.new.low.ports) (g.I.Source.left c.args.script.now) (g.I.Source.left c.send_session.new.script) (g.I.Source.faults c.args.script.now) (g.I.Source.faults c.send_session.new.script) (g.O.Sink.written c.args.out.now) (g.O.Sink.faults c.args.out.now) (g.S.Shelf.told.file c.args.shelf.now t) (g.S.Shelf.told.faults c.args.shelf.now) (g.S.Shelf.told.faults c.send_session.new.shelf) n) (g.O.Sink.written c.send_session.new.out) (g.O.Sink.faults c.send_session.new.out) n c.send_session.result)
+      send = λ table session looks words told. send_asked (λ (t : List ℕ) (n l : ℕ). EndsLive (SendComes (links g.P.Link.Link.gives g.P.Link.Link.sent g.P.Link.Link.faults) l (g.P.Ports.did c.args.low.now.ports) (g.P.Ports.did c.send_session.new.ports) (g.I.Source.left c.args.script.now) (g.I.Source.left c.send_session.new.script) (g.I.Source.faults c.args.script.now) (g.I.Source.faults c.send_session.new.script) (g.O.Sink.written c.args.out.now) (g.O.Sink.faults c.args.out.now) (g.S.Shelf.told.file c.args.shelf.now t) (g.S.Shelf.told.faults c.args.shelf.now) (g.S.Shelf.told.faults c.send_session.new.shelf) n) (g.O.Sink.written c.send_session.new.out) (g.O.Sink.faults c.send_session.new.out) n c.send_session.result)
           _ table _ session _ looks (e.ends told) call refl (a.only (commands.Send table session looks) words);
       append = λ table session looks words. elim (other _ call a (commands.Append table session looks) refl words) [ ];
     }
@@ -141,24 +141,24 @@ returns-in-Append g c =
     let e = c.append_session.ensures in
     record {
       words = λ none. elim (none call refl a.are) [ ];
-      known = λ d live words. e.words;
+      known = λ d live words. e.cause.words;
       shelf = λ none. elim (none (inr (inr (inr (_, _, _, a.are))))) [ ];
       low_ports = λ none. elim (none (inr (inr (_, _, _, a.are)))) [ ];
       high_ports = λ none. refl;
       script = λ none. elim (none (inr (_, _, _, a.are))) [ ];
       keys = λ none. (refl, refl);
-      clock = λ none. e.clock;
+      clock = λ none. refl;
       back = λ told name out. subst (λ (places : Places). IsOut (places name)) e.disks out;
-      memory = e.memory;
-      read = λ three. elim (e.read three) [ inl script ↦ inr (inl script) | inr shelf ↦ inl shelf ];
-      unwritten = e.unwritten;
-      device = λ seven. elim (e.disk.0 seven) [ ];
-      link = λ nine. elim (e.link nine) [ ];
+      memory = e.cause.memory;
+      read = λ three. elim (e.cause.read three) [ inl shelf ↦ inl shelf | inr script ↦ inr (inl script) ];
+      unwritten = e.cause.unwritten;
+      device = λ seven. elim (e.cause.device seven).1 [ ];
+      link = λ nine. elim (e.cause.link nine) [ ];
       race = λ seed count times words. elim (other _ call a (commands.Race seed count (record { items = times })) refl words) [ ];
       serve = λ table session looks words. elim (other _ call a (commands.Serve table session looks) refl words) [ ];
       receive = λ table session looks words. elim (other _ call a (commands.Receive table session looks) refl words) [ ];
       send = λ table session looks words. elim (other _ call a (commands.Send table session looks) refl words) [ ];
-      append = λ table session looks words told. append_asked (λ (t : List ℕ) (n l : ℕ). EndsLive (AppendComes (link_tells g.P.Link.Link.gives g.P.Link.Link.sent g.P.Link.Link.faults) l (g.P.Ports.did c.args.low.now.ports) (g.P.Ports.did c.append_session.new.low.ports) (g.I.Source.left c.args.script.now) (g.I.Source.left c.append_session.new.script) (g.I.Source.faults c.args.script.now) (g.I.Source.faults c.append_session.new.script) (g.O.Sink.written c.args.out.now) (g.O.Sink.faults c.args.out.now) (g.S.Shelf.told.file c.args.shelf.now t) (g.S.Shelf.told.faults c.args.shelf.now) (g.S.Shelf.told.faults c.append_session.new.shelf) n) (g.O.Sink.written c.append_session.new.out) (g.O.Sink.faults c.append_session.new.out) n c.append_session.result)
+      append = λ table session looks words told. append_asked (λ (t : List ℕ) (n l : ℕ). EndsLive (AppendComes (link_tells g.P.Link.Link.gives g.P.Link.Link.sent g.P.Link.Link.faults) l (g.P.Ports.did c.args.low.now.ports) (g.P.Ports.did c.append_session.new.ports) (g.I.Source.left c.args.script.now) (g.I.Source.left c.append_session.new.script) (g.I.Source.faults c.args.script.now) (g.I.Source.faults c.append_session.new.script) (g.O.Sink.written c.args.out.now) (g.O.Sink.faults c.args.out.now) (g.S.Shelf.told.file c.args.shelf.now t) (g.S.Shelf.told.faults c.args.shelf.now) (g.S.Shelf.told.faults c.append_session.new.shelf) n) (g.O.Sink.written c.append_session.new.out) (g.O.Sink.faults c.append_session.new.out) n c.append_session.result)
           _ table _ session _ looks (e.ends told) call refl (a.only (commands.Append table session looks) words);
     }
 

@@ -1,30 +1,42 @@
-use Rattle.dispatch.proofs.LiveEnded.{read_ended, unwritten_ended, link_ended, never_words, nothing_written, never_disk}
+use Rattle.std.proofs.Common.{List, ℕ, Err, inl, inr, refl, subst}
+use Rattle.pump_link.proofs.Grown.{Grows-nil}
+use Rattle.command_ends.specs.Tables.{HasRow, IsRowOf}
+use Rattle.command_ends.proofs.TableRows.{stops_at_file}
+use Rattle.dispatch.proofs.LiveEnded.{status_caused, table_status}
 use Rattle.dispatch.proofs.send.send_session.Goals as goal
 
-pub returns-clause-ends : goal.returns-clause-ends
-returns-clause-ends g c = λ told. record {
-  end = c.run_send-end.result;
-  mid = g.O.Sink.written c.run_send-end.new.out;
-  mid_faults = g.O.Sink.faults c.run_send-end.new.out;
-  comes = c.run_send-end.ensures.comes told;
-  last = c.finish.ensures.closes;
-  later = c.finish.ensures.later;
-}
+pub returns-in-Ok : goal.returns-in-Ok
+returns-in-Ok g c =
+    let r = c.in-Ok.ensures in
+    let e = c.send_over-end in
+    let f = c.finish.ensures in
+    record {
+      ends = λ told. record {
+        end = e.result;
+        mid = g.O.Sink.written e.new.out;
+        mid_faults = g.O.Sink.faults e.new.out;
+        comes = inr (c.in-Ok.row, subst (λ (n : List ℕ). HasRow (g.S.Shelf.told.file c.args.shelf.now n) c.args.session c.in-Ok.row) c.as_str.ensures.value (r.row told), e.ensures.sends);
+        last = f.closes;
+        later = f.later;
+      };
+      cause = status_caused (g.O.Sink.written c.args.out.now) (g.O.Sink.written e.new.out) _ (g.O.Sink.faults c.args.out.now) (g.O.Sink.faults e.new.out) _ c.args.session _ e.result e.ensures.later f.later f.closes f.cause _ e.ensures.cause _ _ _
+          (λ none. absurd none) inr (λ rose. rose) (λ role none. none) (λ rose. rose);
+      disks = r.disks;
+    }
 
-pub returns-clause-memory : goal.returns-clause-memory
-returns-clause-memory g c = nothing_written _ _ _ _ c.finish.ensures.cause _ _ _ _ c.finish.ensures.closes c.run_send-end.ensures.memory
-
-pub returns-clause-read : goal.returns-clause-read
-returns-clause-read g c = λ is. c.run_send-end.ensures.read (read_ended _ _ _ _ c.finish.ensures.cause is)
-
-pub returns-clause-unwritten : goal.returns-clause-unwritten
-returns-clause-unwritten g c = unwritten_ended _ _ _ _ c.finish.ensures.cause _ c.run_send-end.ensures.later c.finish.ensures.later c.run_send-end.ensures.unwritten
-
-pub returns-clause-link : goal.returns-clause-link
-returns-clause-link g c = λ is. c.run_send-end.ensures.link (link_ended _ _ _ _ c.finish.ensures.cause is)
-
-pub returns-clause-words : goal.returns-clause-words
-returns-clause-words g c = never_words _ _ _ _ c.finish.ensures.cause
-
-pub returns-clause-disk : goal.returns-clause-disk
-returns-clause-disk g c = never_disk _ _ _ _ c.finish.ensures.cause c.run_send-end.ensures.disk
+pub returns-in-Err : goal.returns-in-Err
+returns-in-Err g c =
+    let r = c.in-Err.ensures in
+    let f = c.finish-in-Err.ensures in
+    record {
+      ends = λ told. record {
+        end = c.in-Err.end;
+        mid = g.O.Sink.written c.args.out.now;
+        mid_faults = g.O.Sink.faults c.args.out.now;
+        comes = inl (stops_at_file (g.S.Shelf.told.file c.args.shelf.now c.args.table.now) (g.S.Shelf.told.faults c.args.shelf.now) (g.S.Shelf.told.faults c.row_in_file.new.shelf) c.args.session c.in-Err.end r.only (subst (λ (n : List ℕ). IsRowOf (g.S.Shelf.told.file c.args.shelf.now n) c.args.session (Err c.in-Err.end)) c.as_str.ensures.value (r.row told)) r.read, Grows-nil _, refl);
+        last = f.closes;
+        later = f.later;
+      };
+      cause = table_status (g.O.Sink.written c.args.out.now) _ (g.O.Sink.faults c.args.out.now) _ c.args.session _ c.in-Err.end f.later f.closes f.cause _ _ _ r.only (λ unread. inl (r.read unread));
+      disks = r.disks;
+    }

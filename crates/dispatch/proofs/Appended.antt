@@ -1,10 +1,6 @@
--- By which cause a sender of a stream ends, and what it then told.
-use Rattle.std.proofs.Common.{◌≡◌, ◌⊎◌, ℕ, Bool, true, List, Option, inl, inr, refl, sym, subst}
-use Rattle.std.specs.Io.KnownBytes.{Appends}
-use Rattle.pump_link.specs.Causes.{AppendsPrefix}
-use Rattle.peers.specs.Appending.{appended_line}
-use Rattle.peers.specs.Outputs.{PrintsPart}
-use Rattle.peers.proofs.Outgoing.{whole_printed}
+-- By which cause a sender of a stream ends.
+use Rattle.std.proofs.Common.{◌≡◌, ◌⊎◌, ℕ, List, Option, inl, inr, sym, subst}
+use Rattle.pump_frame.specs.Counts.{Rose}
 use Rattle.peers.specs.declared.append.AppendEnd.{AppendEnd}
 use Rattle.peers.specs.declared.append.AppendEnd.TheVariants as appender
 use Rattle.dispatch.specs.Appendings.{end_of_appender, TellsEnd}
@@ -12,50 +8,9 @@ use Rattle.dispatch.specs.Causes.{Causes, IsCaused}
 use Rattle.command_ends.specs.declared.command_end.CommandEnd.{CommandEnd}
 use Rattle.command_ends.specs.declared.command_end.CommandEnd.TheVariants.{Unread, Unwritten}
 
-module _ (session lines next : ℕ) (mid new : Option (List ℕ)) where
-  behind : (end : CommandEnd) (came : AppendEnd) → (came ≡ appender.Write → ⊥)
-      → ((end ≡ end_of_appender came lines next) × Appends mid new (appended_line session lines next)) ⊎ ((end ≡ Unwritten) × AppendsPrefix mid new (appended_line session lines next))
-      → TellsEnd session came lines next mid new end
-  behind end appender.Done other told = told
-  behind end appender.Read other told = told
-  behind end appender.Write other told = absurd (other refl)
-  behind end appender.Script other told = told
-  behind end (appender.Refused code number) other told = told
-  behind end appender.Unfinished other told = told
-  behind end (appender.Elsewhere number) other told = told
-
-  -- the line was written
-  pub told : (came : AppendEnd) (end : CommandEnd) (b : Bool) → (came ≡ appender.Write → ⊥) → end ≡ end_of_appender came lines next → b ≡ true → PrintsPart mid new b (appended_line session lines next)
-      → TellsEnd session came lines next mid new end
-  told came end b other is whole p = behind end came other (inl (is, whole_printed mid new b (appended_line session lines next) whole p))
-
-  -- .. or a prefix of it
-  pub cut : (came : AppendEnd) (b : Bool) → (came ≡ appender.Write → ⊥) → PrintsPart mid new b (appended_line session lines next) → TellsEnd session came lines next mid new Unwritten
-  cut came b other (prefix, rest, whole, appends) = behind Unwritten came other (inr (refl, (prefix, rest.0, rest.1, appends)))
-
--- nothing was written
-pub untold : (session lines next : ℕ) (mid : Option (List ℕ)) (came : AppendEnd) → came ≡ appender.Write → TellsEnd session came lines next mid mid Unwritten
-untold session lines next mid came is = subst (λ (end : AppendEnd). TellsEnd session end lines next mid mid Unwritten) (sym is) (refl, refl)
-
--- ---- the causes ----
-
-pub was_read : (came : AppendEnd) (lines next : ℕ) → end_of_appender came lines next ≡ Unread → came ≡ appender.Read
-was_read appender.Done lines next e = absurd (cc)
-was_read appender.Read lines next e = refl
-was_read appender.Write lines next e = absurd (cc)
-was_read appender.Script lines next e = absurd (cc)
-was_read (appender.Refused code number) lines next e = absurd (cc)
-was_read appender.Unfinished lines next e = absurd (cc)
-was_read (appender.Elsewhere number) lines next e = absurd (cc)
-
-pub was_write : (came : AppendEnd) (lines next : ℕ) → end_of_appender came lines next ≡ Unwritten → came ≡ appender.Write
-was_write appender.Done lines next e = absurd (cc)
-was_write appender.Read lines next e = absurd (cc)
-was_write appender.Write lines next e = refl
-was_write appender.Script lines next e = absurd (cc)
-was_write (appender.Refused code number) lines next e = absurd (cc)
-was_write appender.Unfinished lines next e = absurd (cc)
-was_write (appender.Elsewhere number) lines next e = absurd (cc)
+-- the sender's ends name a read of the script, and the output
+abbrev pub appender_causes : (was now before after : ℕ) → Causes
+appender_causes was now before after = record { memory = ⊥; read = Rose was now; unwritten = Rose before after; device = λ role. ⊥; link = ⊥ }
 
 module _ (c : Causes) (session lines next : ℕ) (mid new : Option (List ℕ)) (end : CommandEnd) (read : end ≡ Unread → c.read) (unwritten : end ≡ Unwritten → c.unwritten) where
   appender_caused : (came : AppendEnd) → end ≡ end_of_appender came lines next → IsCaused c (end_of_appender came lines next)

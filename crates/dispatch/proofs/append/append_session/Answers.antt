@@ -2,8 +2,7 @@ use Rattle.std.proofs.Common.{List, ℕ, Err, inl, inr, refl, subst}
 use Rattle.pump_link.proofs.Grown.{Grows-nil}
 use Rattle.command_ends.specs.Tables.{HasRow, IsRowOf}
 use Rattle.command_ends.proofs.TableRows.{stops_at_file}
-use Rattle.pump_frame.specs.Counts.{Rose}
-use Rattle.dispatch.proofs.Appended.{told_caused}
+use Rattle.dispatch.proofs.Appended.{appender_causes, told_caused}
 use Rattle.dispatch.proofs.LiveEnded.{status_caused, table_status}
 use Rattle.dispatch.proofs.append.append_session.Goals as goal
 
@@ -13,9 +12,8 @@ returns-in-Ok g c =
     let e = c.append_over-end in
     let f = c.finish.ensures in
     let a = e.ensures.appends in
-    let is_caused =
-    told_caused (record { memory = ⊥; read = Rose (g.I.Source.faults c.args.script.now) (g.I.Source.faults e.new.script); unwritten = Rose (g.O.Sink.faults c.args.out.now) (g.O.Sink.faults e.new.out); device = λ role. ⊥; link = ⊥ })
-    c.in-Ok.row.id a.lines a.next a.acked (g.O.Sink.written e.new.out) e.result a.unread a.unwritten a.came a.tells in
+    let causes = appender_causes (g.I.Source.faults c.args.script.now) (g.I.Source.faults e.new.script) (g.O.Sink.faults c.args.out.now) (g.O.Sink.faults e.new.out) in
+    let is_caused = told_caused causes c.in-Ok.row.id a.lines a.next a.acked (g.O.Sink.written e.new.out) e.result a.unread a.unwritten a.came a.tells in
     record {
       ends = λ told. record {
         end = e.result;
@@ -25,7 +23,7 @@ returns-in-Ok g c =
         last = f.closes;
         later = f.later;
       };
-      cause = status_caused (g.O.Sink.written c.args.out.now) (g.O.Sink.written e.new.out) _ (g.O.Sink.faults c.args.out.now) (g.O.Sink.faults e.new.out) _ c.args.session _ e.result e.ensures.later f.later f.closes f.cause _ is_caused _ _ _
+      cause = status_caused (g.O.Sink.written c.args.out.now) (g.O.Sink.written e.new.out) _ (g.O.Sink.faults c.args.out.now) (g.O.Sink.faults e.new.out) _ c.args.session _ e.result e.ensures.later f.later f.closes f.cause causes is_caused _ _ _
           (λ none. absurd none) inr (λ rose. rose) (λ role none. none) (λ none. none);
       disks = r.disks;
     }

@@ -1,9 +1,10 @@
 //! A folder of the machine that files come into.
 
 use crate::entering::enter;
-use adapters::{FileFolders, FileInbox, FolderDisk, FolderNotes, ProgressLine};
+use adapters::FolderDisk;
 use disk_model::{Disk, DiskFault};
 use file_messages::FileName;
+use folder_adapters::{FileFolders, FileInbox, FolderNotes, ProgressLine};
 use folders::{Folders, FoldersFault, Inbox, InboxFault};
 use std::alloc::Alloc;
 use std::fs::{self, File, Files};

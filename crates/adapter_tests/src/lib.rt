@@ -1,5 +1,6 @@
 //! Tests of the machine's files, streams, sockets and clock, which no proof knows. They use the public calls
-//! of `adapters` alone, and stand here so that a change of a test makes no crate be proved again.
+//! of `adapters` and `folder_adapters` alone, and stand here so that a change of a test makes no crate be
+//! proved again.
 #![tactic(auto)]
 
 #[cfg(test)]

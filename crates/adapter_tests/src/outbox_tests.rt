@@ -1,8 +1,8 @@
 //! A folder of the machine that files go out of.
 
 use crate::entering::enter;
-use adapters::{FileFolders, FileOutbox, FolderNotes, ProgressLine};
 use file_messages::FileName;
+use folder_adapters::{FileFolders, FileOutbox, FolderNotes, ProgressLine};
 use folders::{Folders, FoldersFault, Found, Mark, Outbox, Stage};
 use pump_link::Source;
 use std::alloc::Alloc;

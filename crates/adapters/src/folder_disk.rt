@@ -1,37 +1,39 @@
-//! A file of a folder as a disk.
+//! A file that is open as a disk, as a file of a folder is.
 
 ghost use Rattle.std.specs.Prelude.{◌≡◌, ◌≤◌, None};
 ghost use Rattle.pump_frame.specs.Counts.{raised};
 ghost use Rattle.adapters.specs.Files.{count_alone};
 
-use crate::folder_notes::FolderNotes;
 use disk_model::{Disk, DiskFault};
 use pump_frame::raised;
+use std::cell::Cell;
 use std::fs::File;
-use std::io;
+use std::io::{self, ErrorKind};
 use std::os::unix::fs::FileExt;
 
-/// A file of a folder as a disk. It tells how often a call failed, and nothing of what it holds. It reads
-/// nothing ahead, and takes no memory.
+/// A file that is open as a disk, as a file of a folder is. It tells how often a call failed, and nothing of
+/// what it holds. It reads nothing ahead, and takes no memory.
 #[derive(Drop)]
 pub struct FolderDisk<'a> {
     file: File,
     // The size in bytes, where it is known without asking.
     size: Option<u64>,
     faults: u64,
-    notes: &'a FolderNotes,
+    // Where it stands why the last failed call failed.
+    why: &'a Cell<Option<ErrorKind>>,
 }
 
 impl<'a> FolderDisk<'a> {
-    /// The open file as a disk. Nobody else may write it.
-    pub(crate) fn new(file: File, notes: &'a FolderNotes) -> FolderDisk<'a>
+    /// The open file as a disk. Nobody else may write it. Why a call of it failed is put into `why`, which
+    /// outlives the disk.
+    pub fn new(file: File, why: &'a Cell<Option<ErrorKind>>) -> FolderDisk<'a>
         ensures { result.faults ≡ 0 }
     {
         FolderDisk {
             file,
             size: None,
             faults: 0,
-            notes,
+            why,
         }
     }
 
@@ -40,7 +42,7 @@ impl<'a> FolderDisk<'a> {
         ensures later { self.old.faults ≤ self.new.faults }
     {
         self.faults = raised(self.faults);
-        self.notes.note_fault(error);
+        self.why.set(Some(error.kind()));
         DiskFault
     }
 }

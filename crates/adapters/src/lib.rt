@@ -1,23 +1,19 @@
 //! The outside of the relay over what the machine has: disks and a shelf over the files of the current
-//! folder, folders that files come into and go out of, a source and a sink over a reader and a writer,
-//! random bytes, TCP ports, doors and links, and the machine's clock. Each counts its failures, and tells
-//! nothing of what it holds or brings. The ports and the clock of one side of a relay come together.
+//! folder (`FileDisk`, `FileShelf`), a disk over a file that is open (`FolderDisk`), a source and a sink
+//! over a reader and a writer (`StdSource`, `StdSink`), random bytes (`KeySource`), TCP ports, doors and
+//! links (`TcpPorts`, `TcpDoor`, `TcpLink`), and the machine's clock (`RealClock`). Each counts its
+//! failures, and tells nothing of what it holds or brings. The ports and the clock of one side of a relay
+//! come together. It knows no folder that files come into or go out of.
 #![tactic(auto)]
 
 mod counted;
 mod file_ahead;
 mod file_disk;
-mod file_folders;
-mod file_inbox;
-mod file_outbox;
 mod file_place;
 mod file_shelf;
-mod folder;
 mod folder_disk;
-mod folder_notes;
 mod interruption;
 mod key_source;
-mod progress_line;
 mod read_ahead;
 mod readiness;
 mod real_clock;
@@ -28,19 +24,13 @@ mod tcp_door;
 mod tcp_link;
 mod tcp_ports;
 mod traffic;
-mod waiting;
 
 pub use counted::Counted;
 pub use file_disk::FileDisk;
-pub use file_folders::FileFolders;
-pub use file_inbox::FileInbox;
-pub use file_outbox::FileOutbox;
 pub use file_place::Access;
 pub use file_shelf::FileShelf;
 pub use folder_disk::FolderDisk;
-pub use folder_notes::FolderNotes;
 pub use key_source::KeySource;
-pub use progress_line::ProgressLine;
 pub use readiness::is_writable;
 pub use real_clock::{RealClock, now};
 pub use shown_source::ShownSource;

@@ -5,13 +5,14 @@ mod door_log;
 mod explain;
 
 use adapters::{
-    Access, Counted, FileFolders, FileShelf, FolderNotes, KeySource, ProgressLine, ShownSource,
-    StdSink, StdSource, TcpPorts, Traffic, machine_side, now, stepping_side,
+    Access, Counted, FileShelf, KeySource, ShownSource, StdSink, StdSource, TcpPorts, Traffic,
+    machine_side, now, stepping_side,
 };
 use disk_model::Shelf;
 use dispatch::{batch, live};
 use door_log::DoorLog;
 use explain::{Ending, Passed, Trouble, explain, row};
+use folder_adapters::{FileFolders, FolderNotes, ProgressLine};
 use pump_frame::SessionRow;
 use pump_link::{Clock, Ports, Sink, Source};
 use relay_side::RelaySide;

@@ -2,11 +2,11 @@
 
 ghost use Rattle.std.specs.Prelude.{◌≡◌, ◌≤◌, IfOk};
 ghost use Rattle.pump_frame.specs.Counts.{raised};
-ghost use Rattle.adapters.specs.Folders.{inbox_counts_alone};
+ghost use Rattle.folder_adapters.specs.Folders.{inbox_counts_alone};
 
 use crate::folder::Folder;
-use crate::folder_disk::FolderDisk;
 use crate::folder_notes::FolderNotes;
+use adapters::FolderDisk;
 use arrayvec::ArrayString;
 use file_messages::Progress;
 use folders::{Inbox, InboxFault};
@@ -132,21 +132,21 @@ impl<'a, R: Files<File = File>> Inbox for FileInbox<'a, R> {
 
     fn register(&mut self) -> Result<FolderDisk<'a>, InboxFault> {
         match self.open_register() {
-            Ok(file) => Ok(FolderDisk::new(file, self.notes)),
+            Ok(file) => Ok(FolderDisk::new(file, self.notes.why_of_files())),
             Err(error) => Err(self.fault(&error)),
         }
     }
 
     fn begin(&mut self) -> Result<FolderDisk<'a>, InboxFault> {
         match self.begin_part() {
-            Ok(file) => Ok(FolderDisk::new(file, self.notes)),
+            Ok(file) => Ok(FolderDisk::new(file, self.notes.why_of_files())),
             Err(error) => Err(self.fault(&error)),
         }
     }
 
     fn resume(&mut self, count: u64) -> Result<Option<FolderDisk<'a>>, InboxFault> {
         match self.resume_part(count) {
-            Ok(Some(file)) => Ok(Some(FolderDisk::new(file, self.notes))),
+            Ok(Some(file)) => Ok(Some(FolderDisk::new(file, self.notes.why_of_files()))),
             Ok(None) => Ok(None),
             Err(error) => Err(self.fault(&error)),
         }

@@ -4,12 +4,12 @@ ghost use Rattle.std.specs.Prelude.{◌≡◌, ◌≤◌, IfOk, IfSome};
 ghost use Rattle.pump_frame.specs.Counts.{raised};
 ghost use Rattle.folders.specs.Marks.{HasNumbers};
 ghost use Rattle.folders.specs.Outboxes.{IsLawfulFound};
-ghost use Rattle.adapters.specs.Folders.{outbox_counts_alone};
+ghost use Rattle.folder_adapters.specs.Folders.{outbox_counts_alone};
 
 use crate::folder::Folder;
 use crate::folder_notes::FolderNotes;
-use crate::standard::StdSource;
 use crate::waiting::{Waiting, list};
+use adapters::StdSource;
 use arrayvec::ArrayString;
 use file_messages::{FileName, Progress};
 use folders::{Found, Mark, Outbox, OutboxFault, Stage};

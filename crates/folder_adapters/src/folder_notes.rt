@@ -49,6 +49,11 @@ impl FolderNotes {
         self.line.show(progress);
     }
 
+    // Where a file that the folder gave puts why it failed.
+    pub(crate) fn why_of_files(&self) -> &Cell<Option<ErrorKind>> {
+        &self.why
+    }
+
     pub(crate) fn note_fault(&self, error: &io::Error) {
         self.why.set(Some(error.kind()));
     }

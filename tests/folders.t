@@ -2,29 +2,10 @@ Files from folder to folder over a relay: what `drop` and `collect` print and le
 
 Two ports are free. Nobody listens at the ports 1 and 2.
 
-  $ python3 -c '
-  > import socket
-  > ports = [socket.socket() for _ in range(2)]
-  > for port in ports:
-  >     port.bind(("127.0.0.1", 0))
-  > print(*(port.getsockname()[1] for port in ports))' >ports
-  $ read low high <ports
-  $ table() { cat <<.
-  > [[session]]
-  > id = 1
-  > low = "desk"
-  > high = "vault"
-  > capacity = 64
-  > message = $1
-  > window = 8
-  > start = 200
-  > longest = 100000
-  > resend = 500000
-  > low_port = $2
-  > high_port = $3
-  > .
-  > }
-  $ table 200 $low $high >t.toml; table 137 $low $high >short.toml; table 138 1 2 >none.toml
+  $ . $TESTDIR/helpers
+  $ read low high < <(free_ports 2)
+  $ files() { row capacity=64 window=8 start=200 "$@"; }
+  $ files message=200 low_port=$low high_port=$high >t.toml; files message=137 >short.toml; files message=138 >none.toml
   $ netpump format t.toml 1
   formatted 1
   $ mkdir out in

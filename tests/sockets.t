@@ -14,22 +14,9 @@ One port is in use, and two are free. Nobody listens at the ports 1 and 2.
   > open("ready", "w").close()
   > time.sleep(50)' >ports &
   $ while [ ! -e ready ]; do sleep 0.01; done; read used low high <ports
-  $ table() { cat <<.
-  > [[session]]
-  > id = 1
-  > low = "weather"
-  > high = "watch"
-  > capacity = 3
-  > message = 8
-  > window = 2
-  > start = 20000
-  > longest = 100000
-  > resend = 500000
-  > low_port = $1
-  > high_port = $2
-  > .
-  > }
-  $ table $low $high >t.toml; table $used $high >low.toml; table $low $used >high.toml; table 1 2 >none.toml
+  $ . $TESTDIR/helpers
+  $ row message=8 low_port=$low high_port=$high >t.toml; row message=8 low_port=$used high_port=$high >low.toml
+  $ row message=8 low_port=$low high_port=$used >high.toml; row message=8 >none.toml
   $ netpump format t.toml 1
   formatted 1
 

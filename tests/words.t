@@ -159,31 +159,14 @@ Races, with one time and with several; the last line of each record says that al
 
 The others are over tables: one with the sessions 1 and 4294967295, whose ports nobody else has, and one with session 0.
 
-  $ ports=($(python3 -c '
-  > import socket
-  > ends = [socket.create_server(("127.0.0.1", 0)) for _ in range(4)]
-  > print(*[end.getsockname()[1] for end in ends])'))
-  > row() {
-  >   cat <<.
-  > [[session]]
-  > id = $1
-  > low = "weather"
-  > high = "watch"
-  > capacity = 3
-  > message = 12
-  > window = 2
-  > start = 20000
-  > longest = 100000
-  > resend = 500000
-  > low_port = $2
-  > high_port = $3
-  > .
-  > }
-  > { row 1 ${ports[0]} ${ports[1]}; row 4294967295 ${ports[2]} ${ports[3]}; } >t.toml
-  > cp t.toml u.toml
-  > row 0 1 2 >0
-  > long=a234567890123456789012345678901234567890123456789012345678901234
-  > cp t.toml $long
+  $ . $TESTDIR/helpers
+  $ ports=($(free_ports 4))
+  $ row low_port=${ports[0]} high_port=${ports[1]} >t.toml
+  $ row id=4294967295 low_port=${ports[2]} high_port=${ports[3]} >>t.toml
+  $ cp t.toml u.toml
+  $ row id=0 >0
+  $ long=a234567890123456789012345678901234567890123456789012345678901234
+  $ cp t.toml $long
 
   $ tried <<.
   > format t.toml 1

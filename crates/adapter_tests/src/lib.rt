@@ -10,10 +10,6 @@ mod disk_tests;
 #[cfg(test)]
 mod entering;
 #[cfg(test)]
-mod inbox_tests;
-#[cfg(test)]
-mod outbox_tests;
-#[cfg(test)]
 mod port_tests;
 #[cfg(test)]
 mod shelf_tests;

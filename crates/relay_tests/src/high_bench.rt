@@ -1,5 +1,4 @@
-// A high process with its store and its end of a passage, as the tests of its calls and of its worker
-// set it up.
+// A high process with its store and its end of a passage, as the tests of its worker set it up.
 ghost use Rattle.std.specs.Prelude.{◌≡◌, ◌^◌, ◌≤◌, [], IfSome, IfOk};
 ghost use Rattle.pump_frame.specs.Rows.{IsLawfulRow};
 ghost use Rattle.stable_buffer.specs.High.{IsHighReady, high_count};
@@ -44,14 +43,9 @@ fn new_store<D: Disk + Drop>(mut disk: D, row: &SessionRow, count: u64) -> Optio
     Some(HighStore::over(register))
 }
 
-/// A process that found this count on a new disk, with the next message in its hand or without, and
-/// one message in its passage.
-pub fn high_bench<D: Disk + Drop>(
-    alloc: Global,
-    disk: D,
-    count: u64,
-    is_full: bool,
-) -> Result<HighBench<D>, Fail>
+/// A process that found this count on a new disk, with the next message in its hand, and one more in its
+/// passage.
+pub fn high_bench<D: Disk + Drop>(alloc: Global, disk: D, count: u64) -> Result<HighBench<D>, Fail>
     requires empty { D.told.tells → D.told.reading disk ≡ [] }
     ensures ready { IfOk result (λ b. Ready D.told b.process b.store (EndsStandFor b.ends.0)) }
     ensures last { IfOk result (λ b. last_of b.process ≡ 0) }
@@ -59,18 +53,16 @@ pub fn high_bench<D: Disk + Drop>(
     if count > 1000 {
         return Err(Fail::new("no count"));
     }
-    let number = if is_full { count + 1 } else { count };
-    let (Some(row), Some(next)) = (row(8), item(number)) else {
+    let (Some(row), Some(next)) = (row(8), item(count + 1)) else {
         return Err(Fail::new("no row"));
     };
-    let hand = if is_full { item(count) } else { None };
     let mut ends = PlainEnds::new(alloc, &row)?;
     let Some(store) = new_store(disk, &row, count) else {
         return Err(Fail::new("no store"));
     };
     match ends.forward(next) {
         Forwarded::Passed => Ok(HighBench {
-            process: HighProcess::open(&row, count, hand),
+            process: HighProcess::open(&row, count, item(count)),
             store,
             ends: Calm(ends),
         }),

@@ -97,7 +97,7 @@ fn is_served_so<R: Wait>(rt: &R, alloc: Global, case: Case) -> Result<bool, Fail
     let sent = bytes(alloc, case.sent)?;
     let coming = bytes(alloc, case.coming)?;
     let mut link = link(alloc, case.quiet, coming.as_slice(), case.is_failing)?;
-    let bench = high_bench(alloc, PlainDisk::new(alloc, 80)?, case.count, true)?;
+    let bench = high_bench(alloc, PlainDisk::new(alloc, 80)?, case.count)?;
     let found = serve(rt, bench, &mut link, &mut Open, case.looks);
     let wanted = Served {
         served: HighServed {
@@ -201,7 +201,7 @@ fn a_gate_stops_a_connection(rt: HostRuntime) -> Result<(), Fail> {
     let alloc = rt.alloc();
     let mut gate = Few { looks: 2, stops: 0 };
     let mut link = link(alloc, 9, &[], false)?;
-    let bench = high_bench(alloc, PlainDisk::new(alloc, 80)?, 0, true)?;
+    let bench = high_bench(alloc, PlainDisk::new(alloc, 80)?, 0)?;
     let wanted = HighServed {
         why: HighWhy::Stopped,
         looks: 2,
@@ -256,7 +256,7 @@ fn is_kept_so<R: Wait>(rt: &R, alloc: Global, case: DoorCase) -> Result<bool, Fa
     let coming = bytes(alloc, TAKES)?;
     let links = vec![in alloc; link(alloc, 0, coming.as_slice(), false)?]?;
     let disk = MemDisk::new(alloc, 80, 40, vec![in alloc; case.failing]?)?;
-    let bench = high_bench(alloc, disk, 0, true)?;
+    let bench = high_bench(alloc, disk, 0)?;
     let mut ports = MemPorts::new(links, Vec::new(alloc));
     let found = keep(rt, bench, &mut ports, case.rounds);
     let has_sent = match ports.given_back().first() {

@@ -128,7 +128,7 @@ fn is_served_so<R: Wait>(rt: &R, alloc: Global, case: Case) -> Result<bool, Fail
     let coming = bytes(alloc, case.coming)?;
     let mut link = link(alloc, 0, coming.as_slice(), case.is_failing)?;
     let mut desk = Desk::new(alloc, 1000)?;
-    let bench = low_bench(alloc, PlainDisk::new(alloc, 110)?, 0)?;
+    let bench = low_bench(alloc, PlainDisk::new(alloc, 110)?)?;
     let mut gate = Few {
         looks: case.passes,
         stops: 0,
@@ -254,7 +254,7 @@ fn a_message_that_comes_often_is_stored_once(rt: HostRuntime) -> Result<(), Fail
     let alloc = rt.alloc();
     let mut link = repeats(alloc, 1000)?;
     let mut desk = Desk::new(alloc, 400_000)?;
-    let bench = low_bench(alloc, PlainDisk::new(alloc, 110)?, 0)?;
+    let bench = low_bench(alloc, PlainDisk::new(alloc, 110)?)?;
     let mut gate = Few {
         looks: 5000,
         stops: 0,
@@ -337,7 +337,7 @@ fn is_kept_so<R: Wait>(rt: &R, alloc: Global, case: DoorCase) -> Result<bool, Fa
     let links = vec![in alloc; link(alloc, 0, coming.as_slice(), false)?]?;
     let mut desk = Desk::new(alloc, case.room)?;
     let disk = MemDisk::new(alloc, 110, 40, vec![in alloc; case.failing]?)?;
-    let bench = low_bench(alloc, disk, 0)?;
+    let bench = low_bench(alloc, disk)?;
     let mut ports = MemPorts::new(links, Vec::new(alloc));
     let end = keep(rt, bench, &mut desk, &mut ports);
     let has_sent = match ports.given_back().first() {

@@ -10,9 +10,9 @@ Which files `drop` takes out of a folder and in which order, and how `collect` s
   >   netpump serve t.toml 1 4294967295 >record 2>>log & relay=$!
   >   until grep -q 'high side' log; do sleep 0.05; done
   > }
-  $ mkdir out in
+  $ mkdir out elsewhere; ln -s elsewhere in
 
-The relay has room for three messages, so a longer file waits for its receiver. Meanwhile its name tells how it is sent.
+The folder `in` is elsewhere, as one on another disk would be. The relay has room for three messages, so a longer file waits for its receiver. Meanwhile its name tells how it is sent.
 
   $ head -c 1000 /dev/zero | tr '\0' z >out/z; touch -d '1 hour ago' out/z
   $ serve
@@ -22,10 +22,10 @@ The relay has room for three messages, so a longer file waits for its receiver. 
   $ kill -9 $low_end; wait $low_end 2>/dev/null
   [137]
 
-The next `drop` goes on with it. Then come the others: the one that was changed first goes first, and of two that were changed at once the one whose name comes first. What is hidden, a link, a folder, a name that can't go, and a file that was changed within the last two seconds stay where they are.
+The next `drop` goes on with it. Then come the others: the one that was changed first goes first, and of two that were changed at once the one whose name comes first. What is hidden, a link, a pipe, a folder, a name that can't go, and a file that was changed within the last two seconds stay where they are.
 
   $ for name in a b '~' ends. .np-8-f-other; do echo $name >out/$name; touch -d '30 minutes ago' out/$name; done
-  $ touch -r out/a out/b; ln -s a out/link; mkdir out/folder; echo young >out/young; touch -d tomorrow out/young
+  $ touch -r out/a out/b; ln -s a out/link; mkdir out/folder; mkfifo out/pipe; echo young >out/young; touch -d tomorrow out/young
 
 A name at which a link stands is not free, also where the link leads to nothing.
 
@@ -47,6 +47,7 @@ A name at which a link stands is not free, also where the link leads to nothing.
   ends.
   folder
   link
+  pipe
   young
   ~
   640 'in/a'

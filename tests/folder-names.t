@@ -10,7 +10,7 @@ Which files `drop` takes out of a folder and in which order, and how `collect` s
   >   netpump serve t.toml 1 4294967295 >record 2>>log & relay=$!
   >   until grep -q 'high side' log; do sleep 0.05; done
   > }
-  $ mkdir out elsewhere; ln -s elsewhere in
+  $ mkdir out elsewhere; ln -s elsewhere in; touch went came
 
 The folder `in` is elsewhere, as one on another disk would be. The relay has room for three messages, so a longer file waits for its receiver. Meanwhile its name tells how it is sent.
 

@@ -8,7 +8,7 @@ Two ports are free. Nobody listens at the ports 1 and 2.
   $ files message=200 low_port=$low high_port=$high >t.toml; files message=137 >short.toml; files message=138 >none.toml
   $ netpump format t.toml 1
   formatted 1
-  $ mkdir out in
+  $ mkdir out in; touch went came
   $ serve() {
   >   : >log
   >   netpump serve t.toml 1 $1 >record 2>>log & relay=$!

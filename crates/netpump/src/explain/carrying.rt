@@ -27,6 +27,12 @@ fn explain_call(rt: &HostRuntime, words: &[String], why: Option<ErrorKind>) -> i
         Some(ErrorKind::NotADirectory) => eprintln!(rt;
             "netpump: {folder} is no folder; name one that is in this folder"
         ),
+        Some(ErrorKind::PermissionDenied) if word(words, 0) == Some("drop") => eprintln!(rt;
+            "netpump: the folder {folder}, or the file in it that is to be sent, is not yours to read and to write; \
+            change that, and start again, which goes on where this ended. The name of such a file begins with \
+            .np-{}- then, and its own name stands at the end of that",
+            word(words, 2).unwrap_or("S")
+        ),
         Some(ErrorKind::PermissionDenied) => eprintln!(rt;
             "netpump: the folder {folder}, or a file in it, is not yours to read and to write; change that, and \
             start again, which goes on where this ended"
@@ -144,8 +150,8 @@ pub fn tell_lying(rt: &HostRuntime, words: &[String], count: u64) -> io::Result<
         return Ok(());
     }
     eprintln!(rt;
-        "netpump: {count} in number are not sent out of the folder {}, since their names can't go or they are no regular \
-        files (docs/running.md, \"Folders\", says which names can)",
+        "netpump: {count} in number are not sent out of the folder {}, since their names can't go or they are no \
+        regular files (docs/running.md, \"Folders\", says which names can)",
         folder(words)
     )
 }

@@ -81,7 +81,8 @@ fn explain_values(rt: &HostRuntime, command: &Listed, words: &[String]) -> io::R
     };
     if count != wanted {
         return eprintln!(rt;
-            "netpump {VERSION}: the command {name} takes {wanted} words and is given {count}; type it so:\n{line}\n{rest}"
+            "netpump {VERSION}: the command {name} takes {wanted} words and is given {count}; type it \
+            so:\n{line}\n{rest}"
         );
     }
     match first_wrong(rt.alloc(), values, words) {

@@ -63,7 +63,7 @@ A file is shown only out of the part that `collect` wrote. Here `append` sends t
   ack 15
   ack 16
   appended 1 2 17
-  $ until [ "$(stat -c %s in/.1.part)" = 2 ]; do sleep 0.05; done; rm in/.1.part
+  $ until [ "$(stat -c %s in/.1.part 2>/dev/null)" = 2 ]; do sleep 0.05; done; rm in/.1.part
   $ (printf 03; printf hi | sha256sum | cut -d ' ' -f 1) | netpump append t.toml 1 4294967295
   ack 17
   appended 1 1 18

@@ -27,13 +27,12 @@ The words are no command.
   TABLE is the name of a file in this folder: 1 to 64 letters, digits, dots, underscores and dashes, the first a letter or a digit. NEWTABLE is spelled alike, and so is FOLDER, the name of a folder in this one. TIMES are 1 to 16 numbers up to 1000000000 with commas between, as 50,700,20: how many microseconds the receiver takes for each message in turn. LOOKS is at least 1; a look or a round that finds nothing takes about a millisecond. Numbers are written without a sign and without zeros before them, and are below 2^32
   [2]
 
-The first sentence says which word is wrong, and how the command is typed follows.
+The first sentence says which word is wrong and what may stand there, and how the command is typed follows.
 
   $ netpump status t.toml
   fault words
   netpump 1.0: the command status takes 2 words and is given 1; type it so:
     status TABLE S                prints how many messages session S has accepted, removed and received, how many lie in its relay, and how many may; it may run beside the relay
-  TABLE is the name of a file in this folder: * (glob)
   [2]
 
   $ which() { netpump "$@" 2>&1 >/dev/null | head -n 1 | cut -d';' -f1; }
@@ -43,14 +42,14 @@ The first sentence says which word is wrong, and how the command is typed follow
   netpump 1.0: the command show takes 2 words and is given 1
   netpump 1.0: the command audit takes 0 words and is given 1
   $ which show a/b 1; which format t.toml 01; which serve t.toml 1 0; which exercise 1 100001
-  netpump 1.0: the word 'a/b' can't stand for TABLE of show
-  netpump 1.0: the word '01' can't stand for S of format
-  netpump 1.0: the word '0' can't stand for LOOKS of serve
-  netpump 1.0: the word '100001' can't stand for COUNT of exercise
+  netpump 1.0: the word 'a/b' can't stand for TABLE of show, which is the name of a file in this folder: 1 to 64 letters, digits, dots, underscores and dashes, the first a letter or a digit
+  netpump 1.0: the word '01' can't stand for S of format, which is a number below 4294967296, without a sign and without zeros before it
+  netpump 1.0: the word '0' can't stand for LOOKS of serve, which is a number from 1 to 4294967295, without zeros before it
+  netpump 1.0: the word '100001' can't stand for COUNT of exercise, which is a number from 1 to 100000, without zeros before it
   $ which migrate t.toml 1 new.toml 4294967296; which race 0 1 50,,7; which race 0 1 1,2,3,4,5,6,7,8,9,10,11,12,13,14,15,16,17
-  netpump 1.0: the word '4294967296' can't stand for T of migrate
-  netpump 1.0: the word '50,,7' can't stand for TIMES of race
-  netpump 1.0: the word '1,2,3,4,5,6,7,8,9,10,11,12,13,14,15,16,17' can't stand for TIMES of race
+  netpump 1.0: the word '4294967296' can't stand for T of migrate, which is a number below 4294967296, without a sign and without zeros before it
+  netpump 1.0: the word '50,,7' can't stand for TIMES of race, which is 1 to 16 numbers up to 1000000000 with commas between, as 50,700,20: how many microseconds the receiver takes for each message in turn
+  netpump 1.0: the word '1,2,3,4,5,6,7,8,9,10,11,12,13,14,15,16,17' can't stand for TIMES of race, which is 1 to 16 numbers up to 1000000000 with commas between, as 50,700,20: how many microseconds the receiver takes for each message in turn
 
 A line of a script is faulty, and standard input can't be read.
 

@@ -31,9 +31,28 @@ fn command_in(line: &'static str) -> Option<Listed> {
     Some(Listed { name, values, line })
 }
 
-/// What the values of all commands may be, which stands behind them.
-fn values_in_words() -> &'static str {
-    USAGE.rsplit_once('\n').map_or("", |(_, last)| last)
+/// What may stand for this value of a command.
+fn spelling_of(value: &str) -> &'static str {
+    match value {
+        "TABLE" | "NEWTABLE" => {
+            "the name of a file in this folder: 1 to 64 letters, digits, dots, underscores and dashes, the first a \
+            letter or a digit"
+        }
+        "FOLDER" => {
+            "the name of a folder in this one: 1 to 64 letters, digits, dots, underscores and dashes, the first a \
+            letter or a digit"
+        }
+        "LOOKS" => {
+            "a number from 1 to 4294967295, without zeros before it; a look or a round that finds nothing takes about \
+            a millisecond"
+        }
+        "COUNT" => "a number from 1 to 100000, without zeros before it",
+        "TIMES" => {
+            "1 to 16 numbers up to 1000000000 with commas between, as 50,700,20: how many microseconds the receiver \
+            takes for each message in turn"
+        }
+        _ => "a number below 4294967296, without a sign and without zeros before it",
+    }
 }
 
 /// These words, with 1 in place of each value but the one in this place. 1 may stand for every value.
@@ -73,7 +92,7 @@ fn first_wrong<'a>(
 
 fn explain_values(rt: &HostRuntime, command: &Listed, words: &[String]) -> io::Result<()> {
     let Listed { name, values, line } = command;
-    let (count, rest) = (words.len().saturating_sub(1), values_in_words());
+    let count = words.len().saturating_sub(1);
     let wanted = if values.is_empty() {
         0
     } else {
@@ -81,13 +100,13 @@ fn explain_values(rt: &HostRuntime, command: &Listed, words: &[String]) -> io::R
     };
     if count != wanted {
         return eprintln!(rt;
-            "netpump {VERSION}: the command {name} takes {wanted} words and is given {count}; type it \
-            so:\n{line}\n{rest}"
+            "netpump {VERSION}: the command {name} takes {wanted} words and is given {count}; type it so:\n{line}"
         );
     }
     match first_wrong(rt.alloc(), values, words) {
         Some((value, word)) => eprintln!(rt;
-            "netpump {VERSION}: the word '{word}' can't stand for {value} of {name}; type it so:\n{line}\n{rest}"
+            "netpump {VERSION}: the word '{word}' can't stand for {value} of {name}, which is {}; type it so:\n{line}",
+            spelling_of(value)
         ),
         None => eprintln!(rt; "netpump {VERSION}: these words are no command; {USAGE}"),
     }

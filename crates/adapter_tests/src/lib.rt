@@ -1,6 +1,5 @@
 //! Tests of the machine's files, streams, sockets and clock, which no proof knows. They use the public calls
-//! of `adapters` and `folder_adapters` alone, and stand here so that a change of a test makes no crate be
-//! proved again.
+//! of `adapters` alone, and stand here so that a change of a test makes no crate be proved again.
 #![tactic(auto)]
 
 #[cfg(test)]

@@ -3,13 +3,13 @@
 ghost use Rattle.std.specs.Prelude.{◌≡◌, ◌+◌, ◌^◌, ◌<◌, ◌≤◌, ◌++◌, [], ◌∷◌, List, take, length};
 ghost use Rattle.std.specs.Prelude.{IfOk};
 ghost use Rattle.pump_core.specs.History.{Arrival as Offered};
-ghost use Rattle.script_reader.specs.Steps.{coming};
+ghost use Rattle.script_reader.specs.Steps.{coming, data_frame};
 ghost use Rattle.two_worlds.specs.Private.Arrivals.{IsFed, Gathers};
 ghost use Rattle.two_worlds.specs.declared.connection.Waiting.{Waiting as Waits};
 
 use crate::waiting_list::WaitingList;
 use low_process::Arrival;
-use pump_frame::{Frame, Kind, Name, OutOfMemory, Payload, Reader, Step};
+use pump_frame::{Frame, Name, OutOfMemory, Reader, Step};
 use script_reader::ArrivingHead;
 use std::alloc::Global;
 use std::marker::Model;
@@ -161,19 +161,17 @@ impl Connection {
         self.join_frame(Frame::hello(session, low, high))
     }
 
-    /// A DATA joins what waits, where there is room for it. Apart, for the size of a frame.
-    #[inline(never)]
+    /// A DATA joins what waits, where there is room for it.
     fn join_data(&mut self, session: u32, number: u64, bytes: &[u8]) -> bool
         requires number { number < 2 ^ 48 }
         requires few { length bytes.now ≤ 1024 }
-        ensures { Joins self.old self.new session (kinds.Data number bytes.now) result }
+        ensures { JoinsFrame self.old self.new (data_frame session number bytes.now) result }
     {
-        self.join_frame(Frame {
-            kind: Kind::Data,
-            session,
-            number,
-            payload: Payload::from_slice(bytes).unwrap(),
-        })
+        if self.waits.len() >= 64 {
+            return false;
+        }
+        self.waits.push_data(session, number, bytes);
+        true
     }
 
     /// What comes with a `look` line of the session joins what waits; false where more than 64

@@ -1,7 +1,9 @@
-use Rattle.std.proofs.Common.{sym, ap, subst, true}
+use Rattle.std.proofs.Common.{refl, sym, ap, subst, true, [], ◌∷◌}
+use Rattle.pump_core.specs.History.{Came}
+use Rattle.script_reader.specs.Steps.{coming, data_frame}
 use Rattle.script_reader.specs.Heads.{arriving_with}
 use Rattle.script_reader.specs.declared.line.Arriving.{Arriving}
-use Rattle.two_worlds.specs.Connections.{Connected, Joins}
+use Rattle.two_worlds.specs.Connections.{Connected, Joins, reading_of}
 use Rattle.two_worlds.proofs.Arriving.Joining.{joins_nothing}
 use Rattle.two_worlds.proofs.connection.Connection.join.Goals as goal
 
@@ -17,4 +19,5 @@ returns-in-Hello c =
 
 pub returns-in-Data : goal.returns-in-Data
 returns-in-Data c =
-    subst (λ (t : Arriving). Joins c.args.self.now c.join_data.new.self c.args.session t c.join_data.result) (sym (ap (arriving_with c.args.bytes.now) c.in-Data.is)) c.join_data.ensures
+    subst (λ (t : Arriving). Joins c.args.self.now c.join_data.new.self c.args.session t c.join_data.result) (sym (ap (arriving_with c.args.bytes.now) c.in-Data.is))
+    (coming (Came (data_frame c.args.session c.in-Data.number c.args.bytes.now) ∷ []) (reading_of c.args.self.now), refl, c.join_data.ensures)

@@ -38,20 +38,23 @@ pub struct Lines {
     start: usize,
     end: usize,
     number: u32,
+    // Where the first line end of what is held stands.
+    line_end: Option<usize>,
 }
 
 impl Model for Lines {
-    ghost use Rattle.std.specs.Prelude.{◌≡◌, ◌-◌, ◌≤◌, length, take, drop};
-    ghost use Rattle.script_reader.specs.Lines.{LineReading};
+    ghost use Rattle.std.specs.Prelude.{◌≡◌, ◌-◌, ◌≤◌, length, take, drop, position};
+    ghost use Rattle.script_reader.specs.Lines.{LineReading, is_end};
 
     ghost Value = { LineReading };
 
     ghost view = { λ s. record { held = take (s.end - s.start) (drop s.start s.cells); number = s.number } };
 
-    ghost invariant = { λ s. (s.start ≤ s.end) × (s.end ≤ 4096) × (length s.cells ≡ 4096) };
+    ghost invariant = { λ s. (s.start ≤ s.end) × (s.end ≤ 4096) × (length s.cells ≡ 4096)
+        × (s.line_end ≡ position is_end (take (s.end - s.start) (drop s.start s.cells))) };
 }
 
-fn line_end(bytes: &[u8]) -> Option<usize>
+fn first_line_end(bytes: &[u8]) -> Option<usize>
     ensures { result ≡ position is_end bytes.now }
 {
     memchr(b'\n', bytes)
@@ -67,6 +70,7 @@ impl Lines {
             start: 0,
             end: 0,
             number: 0,
+            line_end: None,
         }
     }
 
@@ -86,6 +90,14 @@ impl Lines {
         &self.cells[self.start..self.end]
     }
 
+    /// Where the first line end of what is held stands.
+    fn line_end(&self) -> Option<usize>
+        ensures at { result ≡ position is_end self.now.held }
+        ensures short { length self.now.held ≤ 4096 }
+    {
+        self.line_end
+    }
+
     fn advance(&mut self, len: usize)
         requires held { len ≤ length self.old.held }
         requires few { self.old.number < 2 ^ 32 - 1 }
@@ -93,6 +105,7 @@ impl Lines {
     {
         self.start += len;
         self.number += 1;
+        self.line_end = first_line_end(&self.cells[self.start..self.end]);
     }
 
     fn refuse(&mut self)
@@ -118,6 +131,7 @@ impl Lines {
         match script.read(&mut self.cells[self.end..]) {
             Ok(count) => {
                 self.end += count;
+                self.line_end = first_line_end(&self.cells[..self.end]);
                 Ok(count)
             }
             Err(fault) => Err(fault),
@@ -129,8 +143,7 @@ impl Lines {
     pub fn is_ready(&self) -> bool
         ensures { IsTrue result ↔ LineIsReady self.now.held }
     {
-        let held = self.held();
-        line_end(held).is_some() || held.len() > 2400
+        self.line_end().is_some() || self.held().len() > 2400
     }
 
     /// The next line of the script. The source is asked only where `is_ready` is false, and again only
@@ -167,7 +180,7 @@ impl Lines {
         ensures unasked { LineIsReady self.old.held → script.new ≡ script.old }
     {
         'turns: loop {
-            if let Some(len) = line_end(self.held()) {
+            if let Some(len) = self.line_end() {
                 return self.first(len, body);
             }
             if self.held().len() > 2400 {

@@ -23,9 +23,6 @@ length_taken at head disk is = length_at-agree head 0 disk at
     (λ i lt. let e : 0 + i ≡ i = omega arith in
     ap (λ j. get_or head j 0) e ∙ ap (λ (l : List ℕ). get_or l i 0) is ∙ get_or-take 2 (drop at disk) i 0 lt ∙ get_or-drop at disk i 0)
 
-pub place_low : (a b : ℕ) → a ≤ 255 → b ≤ 1026 → 80 + a * b ≤ 262736
-place_low a b few short = omega (arith, mul-le-mul_left b few, short)
-
 pub too_long_step : (to : SessionRow) (n k l : ℕ) (ms : List (List ℕ)) → k < length ms → l ≡ length (get_or ms k [])
     → too_long to n (drop k ms) ≡ (if nat_lt to.message l then Some (TooLong n l) else too_long to (n + 1) (drop (k + 1) ms))
 too_long_step to n k l ms lt is =

@@ -15,9 +15,9 @@ ghost use Rattle.recovery.specs.declared.why.Why.TheVariants.{Device};
 
 use crate::survey::{Counts, old_fault};
 use crate::{MoveFault, Trio, Why};
-use byteorder::{BigEndian, ByteOrder};
 use disk_model::{Disk, DiskFault, Role};
 use pump_frame::SessionRow;
+use stable_buffer::slot_place;
 
 /// A fault of a new disk.
 pub fn new_fault(role: Role, why: Why) -> MoveFault
@@ -68,15 +68,6 @@ pub fn check_empty<D: Disk>(new: &mut Trio<D>) -> Result<(), MoveFault>
     Ok(())
 }
 
-#[tactic(auto, unfolding(stable_buffer::specs::Numbers::length_at))]
-fn length_in(head: &[u8]) -> u32
-    requires { length head.now ≡ 2 }
-    ensures value { result ≡ length_at head.now 0 }
-    ensures small { result < 2 ^ 16 }
-{
-    BigEndian::read_u16(head) as u32
-}
-
 /// The length that stands at an offset of an old disk.
 pub fn read_length<D: Disk>(disk: &mut D, at: u64, role: Role) -> Result<u32, MoveFault>
     ensures length { IfOk result (λ l. D.told.tells → l ≡ length_at (D.told.reading disk.old) at) }
@@ -89,7 +80,7 @@ pub fn read_length<D: Disk>(disk: &mut D, at: u64, role: Role) -> Result<u32, Mo
         let faults = disk.faults();
         return Err(old_fault(role, Why::Device { faults }));
     }
-    Ok(length_in(&head))
+    Ok(stable_buffer::read_length(&head))
 }
 
 // Whether a record of the receiver's is longer than the new row lets it be.
@@ -129,7 +120,7 @@ pub fn place(row: &SessionRow, n: u64) -> u64
     ensures place { result ≡ slot_of row.now n }
     ensures low { result ≤ 262736 }
 {
-    80 + n % row.capacity as u64 * (2 + row.message as u64)
+    slot_place(row, n)
 }
 
 // Whether one of low's messages that the receiver hasn't is longer than the new row lets it be.

@@ -15,7 +15,7 @@ use crate::Why;
 use byteorder::{BigEndian, ByteOrder};
 use disk_model::{Disk, DiskFault, Role};
 use pump_frame::SessionRow;
-use stable_buffer::{VERSION, allows_version, disk_size};
+use stable_buffer::{VERSION, allows_version, disk_size, letter};
 
 // The bytes `NPD1`.
 const MARK: u32 = 0x4E50_4431;
@@ -27,16 +27,6 @@ fn word(bytes: &[u8], at: usize) -> u32
     ensures spells { big_bytes 4 result ≡ take 4 (drop at bytes.now) }
 {
     BigEndian::read_u32(&bytes[at..])
-}
-
-fn letter(role: Role) -> u8
-    ensures { result ≡ role_byte role }
-{
-    match role {
-        Role::Low => b'L',
-        Role::High => b'H',
-        Role::Recv => b'R',
-    }
 }
 
 fn differs(field: u32, found: u64, wanted: u64) -> Why

@@ -24,6 +24,7 @@ pub fn cell_of(first: u64, second: u64) -> [u8; 16]
     cell
 }
 
+/// The length of a message, as it stands before its bytes on a disk.
 #[tactic(auto, unfolding(crate::specs::Numbers::length_at))]
 pub fn read_length(bytes: &[u8]) -> u32
     requires { 2 ≤ length bytes.now }

@@ -10,8 +10,11 @@ mod low;
 mod new_disk;
 mod register;
 
+pub use bytes::read_length;
 pub use device::Device;
 pub use high::HighStore;
-pub use low::LowStore;
-pub use new_disk::{RECEIVER_SIZE, VERSION, allows_version, begin, disk_size, finish, format};
+pub use low::{LowStore, slot_place};
+pub use new_disk::{
+    RECEIVER_SIZE, VERSION, allows_version, begin, disk_size, finish, format, letter,
+};
 pub use register::Register;

@@ -3,6 +3,7 @@ ghost use Rattle.std.specs.Prelude.{◌≡◌, ℕ, List, ◌+◌, ◌^◌, ◌<
 ghost use Rattle.disk_model.specs.Disk.{Moves, Same, Settled, Leaves, Answers};
 ghost use Rattle.pump_frame.specs.Rows.{IsLawfulRow};
 ghost use Rattle.stable_buffer.specs.Numbers.{length_at, message_at};
+ghost use Rattle.stable_buffer.specs.Low.{HasRanges};
 ghost use Rattle.stable_buffer.specs.Stands.{slot_of, slot_end, low_size, InSlot, LowStands, StandsOn, MayGain, Gains};
 ghost use Rattle.stable_buffer.specs.Stands.{StandsOrGains};
 
@@ -15,6 +16,15 @@ use pump_frame::{Payload, SessionRow};
 pub struct LowStore<D> {
     register: Register<D>,
     row: SessionRow,
+}
+
+/// Where message n stands on the low disk of a row, in bytes from its begin.
+pub fn slot_place(row: &SessionRow, n: u64) -> u64
+    requires ranges { HasRanges row.now }
+    ensures place { result ≡ slot_of row.now n }
+    ensures low { result ≤ 262736 }
+{
+    80 + n % row.capacity as u64 * (2 + row.message as u64)
 }
 
 impl<D: Disk> LowStore<D> {
@@ -90,15 +100,6 @@ impl<D: Disk> LowStore<D> {
         self.row.coarse = true;
     }
 
-    // Where a message stands.
-    fn place(&self, n: u64) -> u64
-        requires ranges { HasRanges (low_row self.now) }
-        ensures place { result ≡ slot_of (low_row self.now) n }
-        ensures low { result ≤ 262736 }
-    {
-        80 + n % self.row.capacity as u64 * (2 + self.row.message as u64)
-    }
-
     // Writes a message into its slot.
     fn write_slot(&mut self, payload: &Payload) -> Result<(), Device>
         requires ready { IsLowReady D.told self.old }
@@ -118,7 +119,7 @@ impl<D: Disk> LowStore<D> {
         ensures device { IfErr result (λ e. e.faults ≡ D.told.count (low_disk self.new)) }
     {
         let number = self.register.value().0;
-        let at = self.place(number);
+        let at = slot_place(&self.row, number);
         self.register.write_message(at, payload)
     }
 
@@ -185,7 +186,7 @@ impl<D: Disk> LowStore<D> {
             (low_disk self.old) (low_disk self.new) result }
         ensures device { IfErr result (λ e. e.faults ≡ D.told.count (low_disk self.new)) }
     {
-        let at = self.place(n);
+        let at = slot_place(&self.row, n);
         let length = self.register.read_length(at)?;
         if length > self.row.message {
             return Ok(length);

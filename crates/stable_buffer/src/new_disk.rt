@@ -25,7 +25,8 @@ const FIRST_VERSION_CAPACITY: u32 = 64;
 /// How many bytes a receiver's disk may fill.
 pub const RECEIVER_SIZE: u64 = 16_777_216;
 
-fn letter(role: Role) -> u8
+/// The letter by which a disk's header tells its role.
+pub fn letter(role: Role) -> u8
     ensures { result ≡ role_byte role }
 {
     match role {

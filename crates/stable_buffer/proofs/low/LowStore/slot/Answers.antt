@@ -55,7 +55,7 @@ returns-in_err-length g c =
       answers = record {
         counts = a.counts;
         rose = λ _. a.rose refl;
-        never = λ plan off fits. elim (false≢true (a.never plan off (omega (arith, fits, c.place-at.ensures.place, slot_within_low s.row c.args.n c.requires.ready.ranges.some)))) [ ];
+        never = λ plan off fits. elim (false≢true (a.never plan off (omega (arith, fits, c.slot_place-at.ensures.place, slot_within_low s.row c.args.n c.requires.ready.ranges.some)))) [ ];
         always = λ plan on. rw (is) refl;
         room = a.room;
         disarmed = a.disarmed;
@@ -70,7 +70,7 @@ returns-then-length-self g c =
     let e = c.in_ok-length.ensures in
     let a = e.answers in
     record {
-      length = λ told. e.length told ∙ ap (λ p. length_at (m.reading s.register.disk) p) c.place-at.ensures.place;
+      length = λ told. e.length told ∙ ap (λ p. length_at (m.reading s.register.disk) p) c.slot_place-at.ensures.place;
       message = λ le. absurd (omega (arith, le, c.if-length-self.true));
       fits = λ le. absurd (omega (arith, le, c.if-length-self.true));
       stands = λ le. absurd (omega (arith, le, c.if-length-self.true));
@@ -123,7 +123,7 @@ returns-in_err-read_beside g c =
             let small : l ≤ length {A = ℕ} (replicate 1024 0) = omega (arith, c.if-length-self.false, c.requires.ready.ranges.short, length-replicate {A = ℕ} 1024 0) in
             let size : length {A = ℕ} (take l (replicate 1024 0)) ≡ l = length-take-le l (replicate 1024 0) small in
             let within = slot_within_low s.row c.args.n c.requires.ready.ranges.some in
-            elim (false≢true (a.never plan (b.disarmed plan) (omega (arith, fits, size, within, c.place-at.ensures.place, c.if-length-self.false, ap length (e.moves.reads told))))) [ ];
+            elim (false≢true (a.never plan (b.disarmed plan) (omega (arith, fits, size, within, c.slot_place-at.ensures.place, c.if-length-self.false, ap length (e.moves.reads told))))) [ ];
         always = λ plan on. rw (is) refl;
         room = λ plan. a.room plan ∙ b.room plan;
         disarmed = a.disarmed;
@@ -136,7 +136,7 @@ returns g c =
     let m = g.D.Disk.told in
     let s = c.args.self.now in
     let reading = m.reading s.register.disk in
-    let at = c.place-at.result in
+    let at = c.slot_place-at.result in
     let l = c.in_ok-length.length in
     let e = c.in_ok-length.ensures in
     let b = e.answers in
@@ -145,16 +145,16 @@ returns g c =
     let small : l ≤ length {A = ℕ} (replicate 1024 0) = omega (arith, c.if-length-self.false, c.requires.ready.ranges.short, length-replicate {A = ℕ} 1024 0) in
     let size : length {A = ℕ} (take l (replicate 1024 0)) ≡ l = length-take-le l (replicate 1024 0) small in
     let found : m.tells → l ≡ length_at reading at = e.length in
-    let placed : m.tells → l ≡ length_at reading (slot_of s.row c.args.n) = λ told. found told ∙ ap (λ p. length_at reading p) c.place-at.ensures.place in
+    let placed : m.tells → l ≡ length_at reading (slot_of s.row c.args.n) = λ told. found told ∙ ap (λ p. length_at reading p) c.slot_place-at.ensures.place in
     let whole : length c.set.new.self ≡ l = taken_length l _ c.read_beside.new.into _ c.set.new.self c.set.ensures.value c.read_beside.ensures.size size in
     let message : m.tells → c.set.new.self ≡ message_at reading (slot_of s.row c.args.n) = λ told.
     taken_message l _ c.read_beside.new.into _ c.set.new.self (m.reading c.read_length.new.self.disk) reading at c.set.ensures.value c.read_beside.ensures.size size (k.bytes told) (e.moves.reads told) (found told)
-    ∙ ap (λ p. message_at reading p) c.place-at.ensures.place in
+    ∙ ap (λ p. message_at reading p) c.slot_place-at.ensures.place in
     record {
       length = placed;
       message = λ le. message;
       fits = λ le. whole;
-      stands = λ le told. in_slot s.row c.args.n l c.set.new.self reading le whole (placed told) (subst (λ p. big_bytes 2 l ≡ take 2 (drop p reading)) c.place-at.ensures.place (e.spells told)) (message told);
+      stands = λ le told. in_slot s.row c.args.n l c.set.new.self reading le whole (placed told) (subst (λ p. big_bytes 2 l ≡ take 2 (drop p reading)) c.slot_place-at.ensures.place (e.spells told)) (message told);
       left = λ more. absurd (omega (arith, more, c.if-length-self.false));
       small = e.small;
       ready = still_ready m s c.read_beside.new.self c.requires.ready k.ready (k.value ∙ e.value) (goes_on_same m Same _ _ _ e.moves k.moves);

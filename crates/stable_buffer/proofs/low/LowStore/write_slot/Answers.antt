@@ -19,7 +19,7 @@ returns-clause-slot g c =
     (λ written told. let new = m.reading c.write_message.new.self.disk in
     slot_written s.row s.register.first c.value-number.result.0 message (spelled message) old new
     c.requires.ready.ranges.some number refl c.requires.fits (let stands = c.requires.ready.stands told in stands.2.size)
-    (subst (λ p. IsWritten old p (spelled message) new) c.place-at.ensures.place (written told)))
+    (subst (λ p. IsWritten old p (spelled message) new) c.slot_place-at.ensures.place (written told)))
     c.write_message.ensures.written
 
 pub returns-clause-moves : goal.returns-clause-moves
@@ -28,8 +28,8 @@ returns-clause-moves g c =
     let m = g.D.Disk.told in
     let r = s.register in
     let n = 2 + length c.args.payload.now in
-    let place : c.place-at.result ≡ slot_of s.row r.first = c.place-at.ensures.place ∙ ap (λ (v : ℕ × ℕ). slot_of s.row v.0) c.value-number.ensures in
-    weaker m (Selects r.parity r.first r.second) (Torn c.place-at.result n) (StandsOn s.row) r.disk c.write_message.new.self.disk c.requires.ready.ready.each
+    let place : c.slot_place-at.result ≡ slot_of s.row r.first = c.slot_place-at.ensures.place ∙ ap (λ (v : ℕ × ℕ). slot_of s.row v.0) c.value-number.ensures in
+    weaker m (Selects r.parity r.first r.second) (Torn c.slot_place-at.result n) (StandsOn s.row) r.disk c.write_message.new.self.disk c.requires.ready.ready.each
     (λ a b is' torn. slot_torn_stands_on s.row r.parity r.first r.second n a b c.requires.ready.ranges.some (omega (arith, c.requires.fits)) is'
     (subst (λ p. Torn p n a b) place torn))
     c.write_message.ensures.moves

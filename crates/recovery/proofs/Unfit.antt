@@ -1,6 +1,5 @@
 -- What doesn't fit a row.
 use Rattle.std.proofs.Common.{◌≡◌, ℕ, suc, ◌+◌, ◌-◌, ◌*◌, ◌<◌, ◌≤◌, nat_lt, if◌then◌else◌, true, false, List, [], length, get_or, take, drop, Option, Some, None, refl, sym, ◌∙◌, ap, subst, arith, drop-cons}
-use Rattle.std.proofs.Math.Nat.{mul-le-mul_left}
 use Rattle.std.proofs.lemmas.List.{get_or-drop, get_or-take, drop_all, drop-drop}
 use Rattle.pump_frame.specs.declared.row.SessionRow.{SessionRow}
 use Rattle.stable_buffer.specs.Numbers.{length_at}

@@ -12,17 +12,11 @@ use Rattle.two_worlds.specs.declared.applied.Stop.TheVariants.{Line, Device, Ful
 use Rattle.two_worlds.specs.declared.pump.parts.Parts.{Parts}
 use Rattle.two_worlds.specs.declared.pump.state.PumpState.{PumpState}
 use Rattle.two_worlds.specs.declared.pump.state.PumpState.TheVariants.{Open, Shut}
-use Rattle.two_worlds.specs.States.{IsOpenWith, RefusesAheadIn}
+use Rattle.two_worlds.specs.States.{disks_in, IsOpenWith, StandsIn, RefusesAheadIn}
+use Rattle.two_worlds.specs.Rooms.{DisksGo}
 use Rattle.two_worlds.specs.Working.{IsAheadBy}
 use Rattle.two_worlds.specs.Private.StateSteps.{StateApplies, StateAppliesOn}
-use Rattle.two_worlds.specs.Private.LineSteps.{AttemptsFrom, AttemptsOn, RefusesAhead, answer_of}
-
--- the answer is the one of its reason to stop
-pub answer_is : (answer : Result (Unit {0}) Stop) (stop : Option Stop) → stop ≡ result_err answer → answer ≡ answer_of stop
-answer_is (Ok done) stop e = sym (ap answer_of e)
-answer_is (Err x) stop e = sym (ap answer_of e)
-
--- ---- the line ----
+use Rattle.two_worlds.specs.Private.LineSteps.{AttemptsFrom, AttemptsOn, Tried}
 
 -- these are the parts before and after
 module _ {D : Type 0} (m : Meaning D) (s t : PumpState D) (c d : Parts D) (was : s ≡ Open c) (now : t ≡ Open d) (line : ScriptLine) where
@@ -30,27 +24,44 @@ module _ {D : Type 0} (m : Meaning D) (s t : PumpState D) (c d : Parts D) (was :
   of_states : (P : PumpState D → PumpState D → Type 0) → P (Open c) (Open d) → P s t
   of_states P h = subst (λ (x : PumpState D × PumpState D). P x.0 x.1) (λ i. (sym was i, sym now i)) h
 
-  pub applied : (p : Past) (printed : List Event) (stop : Option Stop) → AttemptsFrom m c d line [] printed p (answer_of stop) → StateApplies m s t line p printed stop
-  applied p printed None a = of_states (λ x y. StateApplies m x y line p printed None)
+  applied : (p : Past) (printed : List Event) (result : Result (Unit {0}) Stop) → AttemptsFrom m c d line [] printed p result → StateApplies m s t line p printed (result_err result)
+  applied p printed (Ok done) a = of_states (λ x y. StateApplies m x y line p printed None)
       (a.0, (a.1.0, subst (λ (l : List Event). LineStep c.row p line a.1.0 l) (sym a.1.3) a.1.2, a.1.4, a.1.5))
-  applied p printed (Some Line) a = of_states (λ x y. StateApplies m x y line p printed (Some Line)) (a.2, a.1, ap (λ (x : Parts D). Open x) a.0)
-  applied p printed (Some (Device role faults)) a = of_states (λ x y. StateApplies m x y line p printed (Some (Device role faults)))
+  applied p printed (Err Line) a = of_states (λ x y. StateApplies m x y line p printed (Some Line)) (a.2, a.1, ap (λ (x : Parts D). Open x) a.0)
+  applied p printed (Err (Device role faults)) a = of_states (λ x y. StateApplies m x y line p printed (Some (Device role faults)))
       (a.0, (a.1.0, subst (λ (l : List Event). Breaks c.row p line role a.1.0 l) (sym a.1.3) a.1.2, a.1.4, a.1.5))
-  applied p printed (Some (Full end k size)) a = of_states (λ x y. StateApplies m x y line p printed (Some (Full end k size)))
+  applied p printed (Err (Full end k size)) a = of_states (λ x y. StateApplies m x y line p printed (Some (Full end k size)))
       (a.0, (a.1.0, subst (λ (l : List Event). Overfills c.row p line a.1.0 l end k size) (sym a.1.3) a.1.2, a.1.4, a.1.5))
-  applied p printed (Some (Disk role why)) a = absurd a
+  applied p printed (Err (Disk role why)) a = absurd a
 
   -- whatever the disks tell
-  pub applied_on : (printed : List Event) (stop : Option Stop) → AttemptsOn m c d line [] printed (answer_of stop) → StateAppliesOn m s t line printed stop
-  applied_on printed None a = of_states (λ x y. StateAppliesOn m x y line printed None) (a.0, a.1)
-  applied_on printed (Some Line) a = of_states (λ x y. StateAppliesOn m x y line printed (Some Line)) (a.2, a.1, ap (λ (x : Parts D). Open x) a.0)
-  applied_on printed (Some (Device role faults)) a = of_states (λ x y. StateAppliesOn m x y line printed (Some (Device role faults))) (a.0, a.1.0, a.1.1)
-  applied_on printed (Some (Full end k size)) a = of_states (λ x y. StateAppliesOn m x y line printed (Some (Full end k size))) (a.0, a.1)
-  applied_on printed (Some (Disk role why)) a = absurd a
+  applied_on : (printed : List Event) (result : Result (Unit {0}) Stop) → AttemptsOn m c d line [] printed result → StateAppliesOn m s t line printed (result_err result)
+  applied_on printed (Ok done) a = of_states (λ x y. StateAppliesOn m x y line printed None) (a.0, a.1)
+  applied_on printed (Err Line) a = of_states (λ x y. StateAppliesOn m x y line printed (Some Line)) (a.2, a.1, ap (λ (x : Parts D). Open x) a.0)
+  applied_on printed (Err (Device role faults)) a = of_states (λ x y. StateAppliesOn m x y line printed (Some (Device role faults))) (a.0, a.1.0, a.1.1)
+  applied_on printed (Err (Full end k size)) a = of_states (λ x y. StateAppliesOn m x y line printed (Some (Full end k size))) (a.0, a.1)
+  applied_on printed (Err (Disk role why)) a = absurd a
 
-  -- a packet that is refused
-  pub applied_ahead : (printed : List Event) → RefusesAhead c d line [] printed → RefusesAheadIn s t line [] printed
-  applied_ahead printed refuses = of_states (λ x y. RefusesAheadIn x y line [] printed) refuses
+  -- the line was tried, with this answer
+  module _ (printed : List Event) (result : Result (Unit {0}) Stop) (stop : Option Stop) (is : stop ≡ result_err result) (tried : Tried m c d line printed result) where
+    pub state_applies : (p : Past) → StandsIn m s p → StateApplies m s t line p printed stop
+    state_applies p stands = subst (λ (x : Option Stop). StateApplies m s t line p printed x) (sym is)
+        (applied p printed result (tried.attempts p (subst (λ (x : PumpState D). StandsIn m x p) was stands)))
+
+    pub state_applies_on : StateAppliesOn m s t line printed stop
+    state_applies_on = subst (λ (x : Option Stop). StateAppliesOn m s t line printed x) (sym is) (applied_on printed result tried.on)
+
+    -- a packet that is refused
+    pub state_ahead : RefusesAheadIn s t line [] printed
+    state_ahead = of_states (λ x y. RefusesAheadIn x y line [] printed) tried.ahead
+
+    pub state_serves : DisksGo m (disks_in s).row (disks_in s).low (disks_in s).high (disks_in s).recv (disks_in t).low (disks_in t).high (disks_in t).recv stop
+    state_serves =
+        subst (λ (x : Option Stop). DisksGo m (disks_in s).row (disks_in s).low (disks_in s).high (disks_in s).recv (disks_in t).low (disks_in t).high (disks_in t).recv x) (sym is)
+        (of_states (λ x y. DisksGo m (disks_in x).row (disks_in x).low (disks_in x).high (disks_in x).recv (disks_in y).low (disks_in y).high (disks_in y).recv (result_err result)) tried.serve)
+
+    pub state_row : (disks_in t).row ≡ (disks_in s).row
+    state_row = of_states (λ x y. (disks_in y).row ≡ (disks_in x).row) tried.row
 
 -- a line that brings no packet
 pub no_packet : {D : Type 0} (s : PumpState D) (line other : ScriptLine) → line ≡ other → ((c : Parts D) → IsAheadBy c other → ⊥) → IsOpenWith (λ c. IsAheadBy c line) s → ⊥

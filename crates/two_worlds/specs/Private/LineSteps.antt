@@ -1,5 +1,5 @@
 -- What a line of a script does to the parts of a pump.
-use Rattle.std.specs.Prelude.{◌≡◌, ℕ, true, List, [], Option, None, Some, Result, Ok, Err}
+use Rattle.std.specs.Prelude.{◌≡◌, ℕ, true, List, [], Result, Ok, Err}
 use Rattle.disk_model.specs.Disk.{Meaning}
 use Rattle.script_reader.specs.declared.event.Event.{Event}
 use Rattle.script_reader.specs.declared.line.Line.{Line as ScriptLine}
@@ -103,8 +103,11 @@ AttemptsOn m c d line out now (Err (Full end size_of_message size)) = CanApply c
     × WorksOn m d (Err (Full end size_of_message size))
 AttemptsOn m c d line out now (Err (Disk role why)) = ⊥
 
--- ---- an answer, as the reason to stop that it gives ----
-
-abbrev pub answer_of : Option Stop → Result (Unit {0}) Stop
-answer_of None = Ok tt
-answer_of (Some stop) = Err stop
+-- what is said of any line, after which the list has what it printed
+pub record Tried {D : Type 0} (m : Meaning D) (c d : Parts D) (line : ScriptLine) (now : List Event)
+    (result : Result (Unit {0}) Stop) : Type 0 where
+  pub attempts : Attempts m c d line [] now result
+  pub on : AttemptsOn m c d line [] now result
+  pub ahead : RefusesAhead c d line [] now
+  pub serve : DisksServe m c d result
+  pub row : d.row ≡ c.row

@@ -1,28 +1,26 @@
 //! The lines of a script.
 
-ghost use Rattle.std.specs.Prelude.{◌≡◌, ℕ, ◌+◌, ◌^◌, ◌<◌, ◌≤◌, true, false, [], length, Some};
+ghost use Rattle.std.specs.Prelude.{◌≡◌, ℕ, ◌+◌, ◌^◌, ◌<◌, ◌≤◌, true, false, ◌&&◌, ◌||◌, not, ◌==◌, nat_lt, nat_le, length};
+ghost use Rattle.std.specs.Prelude.{Some};
 ghost use Rattle.disk_model.specs.declared.name.Role.TheVariants as roles;
-ghost use Rattle.script_reader.specs.Lawful.{IsLawfulLine, IsLawfulArriving};
+ghost use Rattle.script_reader.specs.Lawful.{IsLawfulLine};
 ghost use Rattle.script_reader.specs.declared.line.Line.TheVariants as lines;
-ghost use Rattle.script_reader.specs.Heads.{arriving_with, line_with, CanHold, CanHoldLine};
+ghost use Rattle.script_reader.specs.Heads.{line_with, CanHoldLine};
 ghost use Rattle.script_reader.specs.Steps.{IsCarriedBack};
 ghost use Rattle.script_reader.specs.Breaks.{BreaksOff};
 ghost use Rattle.two_worlds.specs.Printing.{lines_in};
-ghost use Rattle.two_worlds.specs.Rooms.{DisksGo};
-ghost use Rattle.two_worlds.specs.Standing.{disk_at};
 ghost use Rattle.two_worlds.specs.Working.{IsAble};
 ghost use Rattle.two_worlds.specs.Doing.{Does, LeavesAlone};
 ghost use Rattle.two_worlds.specs.Private.GoingOn.{WorksOn};
 ghost use Rattle.two_worlds.specs.Private.Serving.{DisksServe};
-ghost use Rattle.two_worlds.specs.Private.LineSteps.{IsOverfullSent, Ran, Runs, RunsOn, Attempts, AttemptsOn};
-ghost use Rattle.two_worlds.specs.Private.LineSteps.{RefusesAhead, answer_of};
-ghost use Rattle.two_worlds.specs.Timely.{goes_on_by, is_timely_by, opens_again};
+ghost use Rattle.two_worlds.specs.Private.LineSteps.{IsOverfullSent, Runs, Tried};
+ghost use Rattle.two_worlds.specs.Timely.{goes_on_by, opens_again};
 
 use crate::applied::Stop;
 use crate::pump::parts::Parts;
 use arrayvec::ArrayVec;
 use disk_model::Disk;
-use script_reader::{ArrivingHead, EventHead, LineHead};
+use script_reader::{EventHead, LineHead};
 
 /// The last moment of a script, 2^62.
 const LAST_MOMENT: u64 = 4_611_686_018_427_387_904;
@@ -36,99 +34,36 @@ impl<D: Disk> Parts<D> {
         self.high.hand().is_some() || self.ends.held() > 0
     }
 
-    /// Whether the line can be applied, where there is room for what comes with it.
-    fn is_timely(&self, line: &LineHead, _bytes: &[u8]) -> bool
+    /// The line names this session, and no moment falls.
+    fn is_timely(&self, session: u32, moment: u64) -> bool
+        ensures { result ≡ (session == self.now.row.id && nat_le self.now.moment moment) }
+    {
+        session == self.row.id && self.moment <= moment
+    }
+
+    /// The line names this session, and the packet so many before the last one is kept.
+    fn can_carry(&self, session: u32, back: u64) -> bool
+        ensures { result ≡ (session == self.now.row.id && nat_lt back (length self.now.sent.items)) }
+    {
+        session == self.row.id && back < self.sent.len() as u64
+    }
+
+    /// As `is_timely`, and the number of the TAKEN so many before the last one is kept.
+    fn can_return(&self, session: u32, moment: u64, back: u64) -> bool
+        ensures { result ≡ (session == self.now.row.id && (nat_le self.now.moment moment
+            && nat_lt back (length self.now.returned.items))) }
+    {
+        self.is_timely(session, moment) && back < self.returned.len() as u64
+    }
+
+    /// As `is_timely`, and no TAKEN comes back, or it does so by the last moment of a script.
+    fn can_be_done(&self, session: u32, moment: u64, time: u32) -> bool
         requires able { IsAble D.told self.now }
-        requires lawful { IsLawfulLine (line_with _bytes.now line.now) }
-        ensures { result ≡ is_timely_by self.now (line_with _bytes.now line.now) }
-    {
-        match line {
-            LineHead::Skip
-            | LineHead::Session(_)
-            | LineHead::LowSession { .. }
-            | LineHead::Coarse { .. }
-            | LineHead::Told { .. }
-            | LineHead::Step { .. } => false,
-            LineHead::Look {
-                session,
-                moment,
-                ..
-            }
-            | LineHead::Gone { session, moment }
-            | LineHead::High { session, moment }
-            | LineHead::Restart { session, moment }
-            | LineHead::ReceiverRestart { session, moment } => {
-                *session == self.row.id && self.moment <= *moment
-            }
-            LineHead::Carry { session, back } => {
-                *session == self.row.id && *back < self.sent.len() as u64
-            }
-            LineHead::Return {
-                session,
-                moment,
-                back,
-            } => {
-                *session == self.row.id
-                    && self.moment <= *moment
-                    && *back < self.returned.len() as u64
-            }
-            LineHead::Done {
-                session,
-                moment,
-                time,
-            } => {
-                *session == self.row.id
-                    && self.moment <= *moment
-                    && (!self.goes_on() || *moment + *time as u64 <= LAST_MOMENT)
-            }
-        }
-    }
-
-    /// A `look` line: what comes joins what waits, and the low process looks. `Stop::Line` where
-    /// more than 64 arrivals would wait.
-    fn look_line(
-        &mut self,
-        moment: u64,
-        word: u32,
-        arriving: &ArrivingHead,
-        bytes: &[u8],
-        out: &mut ArrayVec<EventHead, 4>,
-    ) -> Result<(), Stop>
-        requires able { IsAble D.told self.old }
-        requires lawful { IsLawfulArriving (arriving_with bytes.now arriving.now) }
-        requires room { CanHold arriving.now bytes.now }
-        requires order { self.old.moment ≤ moment }
         requires moment { moment ≤ 2 ^ 62 }
-        requires out { length out.old.items ≤ 0 }
-        ensures runs { Runs D.told self.old self.new (lines.Look self.old.row.id moment word
-            (arriving_with bytes.now arriving.now))
-            (lines_in out.old.items) (lines_in out.new.items) result }
-        ensures on { RunsOn D.told self.old self.new (lines.Look self.old.row.id moment word
-            (arriving_with bytes.now arriving.now))
-            (lines_in out.old.items) (lines_in out.new.items) result }
-        ensures serve { DisksServe D.told self.old self.new result }
-        ensures row { self.new.row ≡ self.old.row }
+        ensures { result ≡ (session == self.now.row.id && (nat_le self.now.moment moment
+            && (not (goes_on_by self.now) || nat_le (moment + time) (2 ^ 62)))) }
     {
-        if !self.connection.join(self.row.id, arriving, bytes) {
-            return Err(Stop::Line);
-        }
-        self.look_first(moment, word, out)
-    }
-
-    /// A `gone` line: the connection is lost, and the low process looks.
-    fn gone_line(&mut self, moment: u64, out: &mut ArrayVec<EventHead, 4>) -> Result<(), Stop>
-        requires able { IsAble D.told self.old }
-        requires order { self.old.moment ≤ moment }
-        requires moment { moment ≤ 2 ^ 62 }
-        requires out { length out.old.items ≤ 0 }
-        ensures runs { Runs D.told self.old self.new (lines.Gone self.old.row.id moment)
-            (lines_in out.old.items) (lines_in out.new.items) result }
-        ensures works { WorksOn D.told self.new result }
-        ensures serve { DisksServe D.told self.old self.new result }
-        ensures row { self.new.row ≡ self.old.row }
-    {
-        self.connection.lose();
-        self.look_gone(moment, out)
+        self.is_timely(session, moment) && (!self.goes_on() || moment + time as u64 <= LAST_MOMENT)
     }
 
     /// The message in the high hand, which was sent last, comes to the receiver, and its TAKEN comes
@@ -184,95 +119,54 @@ impl<D: Disk> Parts<D> {
         self.carry_back(moment + time as u64, out)
     }
 
-    /// A line that can be applied where there is room for what comes with it.
-    fn run(
-        &mut self,
-        line: &LineHead,
-        bytes: &[u8],
-        out: &mut ArrayVec<EventHead, 4>,
-    ) -> Result<(), Stop>
-        requires able { IsAble D.told self.old }
-        requires lawful { IsLawfulLine (line_with bytes.now line.now) }
-        requires room { CanHoldLine line.now bytes.now }
-        requires stays { opens_again (line_with bytes.now line.now) ≡ false }
-        requires timely { is_timely_by self.old (line_with bytes.now line.now) ≡ true }
-        requires out { length out.old.items ≤ 0 }
-        ensures { Ran D.told self.old self.new (line_with bytes.now line.now) (lines_in out.old.items)
-            (lines_in out.new.items) result }
-    {
-        match line {
-            LineHead::Skip
-            | LineHead::Session(_)
-            | LineHead::LowSession { .. }
-            | LineHead::Coarse { .. }
-            | LineHead::Told { .. }
-            | LineHead::Step { .. }
-            | LineHead::Restart { .. }
-            | LineHead::ReceiverRestart { .. } => { Err(Stop::Line) }
-            LineHead::Look {
-                moment,
-                word,
-                arrival,
-                ..
-            } => self.look_line(*moment, *word, arrival, bytes, out),
-            LineHead::Gone { moment, .. } => self.gone_line(*moment, out),
-            LineHead::High { moment, .. } => self.look_high(*moment, out),
-            LineHead::Carry { back, .. } => self.carry(*back, out),
-            LineHead::Return { moment, back, .. } => self.take_back(*moment, *back, out),
-            LineHead::Done { moment, time, .. } => self.done_line(*moment, *time, out),
-        }
-    }
-
-    /// A line, if it can be applied; `Stop::Line` where it can't, and then nothing was done.
-    pub fn attempt(
-        &mut self,
-        line: &LineHead,
-        bytes: &[u8],
-        out: &mut ArrayVec<EventHead, 4>,
-    ) -> Result<(), Stop>
-        requires able { IsAble D.told self.old }
-        requires lawful { IsLawfulLine (line_with bytes.now line.now) }
-        requires room { CanHoldLine line.now bytes.now }
-        requires stays { opens_again (line_with bytes.now line.now) ≡ false }
-        requires out { length out.old.items ≤ 0 }
-        ensures attempts { Attempts D.told self.old self.new (line_with bytes.now line.now) (lines_in out.old.items)
-            (lines_in out.new.items) result }
-        ensures on { AttemptsOn D.told self.old self.new (line_with bytes.now line.now) (lines_in out.old.items)
-            (lines_in out.new.items) result }
-        ensures ahead { RefusesAhead self.old self.new (line_with bytes.now line.now) (lines_in out.old.items)
-            (lines_in out.new.items) }
-        ensures serve { DisksServe D.told self.old self.new result }
-        ensures row { self.new.row ≡ self.old.row }
-    {
-        if !self.is_timely(line, bytes) {
-            return Err(Stop::Line);
-        }
-        self.run(line, bytes, out)
-    }
-
-    /// A line of the script: what it prints is all that is in the list after it, and whether it stops
-    /// the session.
+    /// A line of the script: what it prints is all that is in the list after it. `Stop::Line` where it
+    /// can't be applied, and then nothing was done.
     pub fn apply(
         &mut self,
         line: &LineHead,
         bytes: &[u8],
         out: &mut ArrayVec<EventHead, 4>,
-    ) -> Option<Stop>
+    ) -> Result<(), Stop>
         requires able { IsAble D.told self.old }
         requires lawful { IsLawfulLine (line_with bytes.now line.now) }
         requires room { CanHoldLine line.now bytes.now }
         requires stays { opens_again (line_with bytes.now line.now) ≡ false }
-        ensures attempts { Attempts D.told self.old self.new (line_with bytes.now line.now) [] (lines_in out.new.items)
-            (answer_of result) }
-        ensures on { AttemptsOn D.told self.old self.new (line_with bytes.now line.now) [] (lines_in out.new.items)
-            (answer_of result) }
-        ensures ahead { RefusesAhead self.old self.new (line_with bytes.now line.now) [] (lines_in out.new.items) }
-        ensures serve { DisksGo D.told self.old.row (disk_at roles.Low self.old) (disk_at roles.High self.old)
-            (disk_at roles.Recv self.old)
-            (disk_at roles.Low self.new) (disk_at roles.High self.new) (disk_at roles.Recv self.new) result }
-        ensures row { self.new.row ≡ self.old.row }
+        ensures { Tried D.told self.old self.new (line_with bytes.now line.now) (lines_in out.new.items) result }
     {
         out.clear();
-        self.attempt(line, bytes, out).err()
+        match line {
+            LineHead::Look {
+                session,
+                moment,
+                word,
+                arrival,
+            } if self.is_timely(*session, *moment) => {
+                self.look_line(*moment, *word, arrival, bytes, out)
+            }
+            LineHead::Gone { session, moment } if self.is_timely(*session, *moment) => {
+                self.gone_line(*moment, out)
+            }
+            LineHead::High { session, moment } if self.is_timely(*session, *moment) => {
+                self.look_high(*moment, out)
+            }
+            LineHead::Carry { session, back } if self.can_carry(*session, *back) => {
+                self.carry(*back, out)
+            }
+            LineHead::Return {
+                session,
+                moment,
+                back,
+            } if self.can_return(*session, *moment, *back) => {
+                self.take_back(*moment, *back, out)
+            }
+            LineHead::Done {
+                session,
+                moment,
+                time,
+            } if self.can_be_done(*session, *moment, *time) => {
+                self.done_line(*moment, *time, out)
+            }
+            _ => Err(Stop::Line),
+        }
     }
 }

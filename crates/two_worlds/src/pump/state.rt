@@ -88,7 +88,7 @@ impl<D: Disk> PumpState<D> {
                 self.restart_receiver(*session, *moment, out)
             }
             _ => match self {
-                PumpState::Open(parts) => parts.apply(line, bytes, out),
+                PumpState::Open(parts) => parts.apply(line, bytes, out).err(),
                 PumpState::Shut(_) => unreachable!(),
             },
         }

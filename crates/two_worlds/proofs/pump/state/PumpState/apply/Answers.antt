@@ -1,11 +1,9 @@
 use Rattle.std.proofs.Common.{refl, sym, ap, subst}
 use Rattle.script_reader.specs.Heads.{line_with}
 use Rattle.script_reader.specs.declared.line.Line.{Line}
-use Rattle.two_worlds.specs.declared.pump.state.PumpState.{PumpState}
 use Rattle.two_worlds.specs.Printing.{lines_in}
 use Rattle.two_worlds.specs.Private.StateSteps.{StateApplies}
-use Rattle.two_worlds.specs.States.{StandsIn}
-use Rattle.two_worlds.proofs.Lines.Applied.{applied, applied_on, applied_ahead, no_packet}
+use Rattle.two_worlds.proofs.Lines.Applied.{state_applies, state_applies_on, state_ahead, state_serves, state_row, no_packet}
 use Rattle.two_worlds.proofs.pump.state.PumpState.apply.Goals as goal
 
 pub returns-in-Restart-clause-applies : goal.returns-in-Restart-clause-applies
@@ -18,12 +16,23 @@ returns-in-ReceiverRestart-clause-applies g c = λ told p s.
 
 pub returns-in-Open-clause-applies : goal.returns-in-Open-clause-applies
 returns-in-Open-clause-applies g c = λ told p s.
-    applied g.D.Disk.told c.args.self.now _ c.in-Open.parts c.apply.new.self c.in-Open.is refl (line_with c.args.bytes.now c.args.line.now) p (lines_in c.apply.new.out.items) c.apply.result
-    (c.apply.ensures.attempts p (subst (λ (x : PumpState _). StandsIn g.D.Disk.told x p) c.in-Open.is s))
+    state_applies g.D.Disk.told c.args.self.now _ c.in-Open.parts c.apply.new.self c.in-Open.is refl (line_with c.args.bytes.now c.args.line.now) (lines_in c.apply.new.out.items) c.apply.result c.err.result c.err.ensures.value c.apply.ensures p s
 
 pub returns-in-Open-clause-on : goal.returns-in-Open-clause-on
 returns-in-Open-clause-on g c =
-    applied_on g.D.Disk.told c.args.self.now _ c.in-Open.parts c.apply.new.self c.in-Open.is refl (line_with c.args.bytes.now c.args.line.now) (lines_in c.apply.new.out.items) c.apply.result c.apply.ensures.on
+    state_applies_on g.D.Disk.told c.args.self.now _ c.in-Open.parts c.apply.new.self c.in-Open.is refl (line_with c.args.bytes.now c.args.line.now) (lines_in c.apply.new.out.items) c.apply.result c.err.result c.err.ensures.value c.apply.ensures
+
+pub returns-in-Open-clause-ahead : goal.returns-in-Open-clause-ahead
+returns-in-Open-clause-ahead g c =
+    state_ahead g.D.Disk.told c.args.self.now _ c.in-Open.parts c.apply.new.self c.in-Open.is refl (line_with c.args.bytes.now c.args.line.now) (lines_in c.apply.new.out.items) c.apply.result c.err.result c.err.ensures.value c.apply.ensures
+
+pub returns-in-Open-clause-serve : goal.returns-in-Open-clause-serve
+returns-in-Open-clause-serve g c =
+    state_serves g.D.Disk.told c.args.self.now _ c.in-Open.parts c.apply.new.self c.in-Open.is refl (line_with c.args.bytes.now c.args.line.now) (lines_in c.apply.new.out.items) c.apply.result c.err.result c.err.ensures.value c.apply.ensures
+
+pub returns-in-Open-clause-row : goal.returns-in-Open-clause-row
+returns-in-Open-clause-row g c =
+    state_row g.D.Disk.told c.args.self.now _ c.in-Open.parts c.apply.new.self c.in-Open.is refl (line_with c.args.bytes.now c.args.line.now) (lines_in c.apply.new.out.items) c.apply.result c.err.result c.err.ensures.value c.apply.ensures
 
 pub returns-in-Restart-clause-ahead : goal.returns-in-Restart-clause-ahead
 returns-in-Restart-clause-ahead g c = λ is.
@@ -32,7 +41,3 @@ returns-in-Restart-clause-ahead g c = λ is.
 pub returns-in-ReceiverRestart-clause-ahead : goal.returns-in-ReceiverRestart-clause-ahead
 returns-in-ReceiverRestart-clause-ahead g c = λ is.
     absurd (no_packet c.args.self.now _ _ (ap (line_with c.args.bytes.now) c.in-ReceiverRestart.is) (λ x none. none) is)
-
-pub returns-in-Open-clause-ahead : goal.returns-in-Open-clause-ahead
-returns-in-Open-clause-ahead g c =
-    applied_ahead g.D.Disk.told c.args.self.now _ c.in-Open.parts c.apply.new.self c.in-Open.is refl (line_with c.args.bytes.now c.args.line.now) (lines_in c.apply.new.out.items) c.apply.ensures.ahead

@@ -6,6 +6,7 @@ pub mod HighLooks
 pub mod LineSteps
 pub mod LowLooks
 pub mod Opened
+pub mod PartSteps
 pub mod Readied
 pub mod Reopening
 pub mod Restarting

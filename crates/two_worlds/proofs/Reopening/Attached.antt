@@ -131,14 +131,14 @@ applied {D} m (Open c) (Open d) (Open e) session moment printed result due r a t
     let at : Reattaches m (record c { receiver = d.receiver }) e moment printed result = subst (λ (x : Parts D). Reattaches m x e moment printed result) is a in
     let from : Stands m (record c { receiver = d.receiver }) p × LeavesFit m (bare_of c) (bare_of (record c { receiver = d.receiver })) p p =
     subst (λ (x : Parts D). Stands m x p × LeavesFit m (bare_of c) (bare_of x) p p) is (r.from told p s) in
-    applied_from m c d.receiver e session moment due printed result at p s from.1 (at.does p from.0)
+    applied_from m c d.receiver e session moment due printed result at p s from.1 (at.step.does p from.0)
 applied m (Open c) (Open d) (Shut e) session moment printed result due r a told p s = absurd a
 applied m (Open c) (Shut d) t session moment printed result due r a told p s = absurd a
 applied m (Shut c) mid t session moment printed result due r a told p s = absurd s
 
 pub applied_on : {D : Type 0} (m : Meaning D) (s mid t : PumpState D) (session moment : ℕ) (printed : List Event) (result : Result (Unit {0}) Stop) → is_due_in s session moment ≡ true
     → Opens m s mid → Then m mid t moment printed result → StateAppliesOn m s t (lines.ReceiverRestart session moment) printed (result_err result)
-applied_on m (Open c) (Open d) (Open e) session moment printed result due r a = applied_on_from m c d.receiver e session moment due printed result a.works
+applied_on m (Open c) (Open d) (Open e) session moment printed result due r a = applied_on_from m c d.receiver e session moment due printed result a.step.works
 applied_on m (Open c) (Open d) (Shut e) session moment printed result due r a = absurd a
 applied_on m (Open c) (Shut d) t session moment printed result due r a = absurd a
 applied_on m (Shut c) mid t session moment printed result due r a = absurd r
@@ -146,7 +146,7 @@ applied_on m (Shut c) mid t session moment printed result due r a = absurd r
 pub disks_go : {D : Type 0} (m : Meaning D) (s mid t : PumpState D) (moment : ℕ) (printed : List Event) (result : Result (Unit {0}) Stop) → Opens m s mid → Then m mid t moment printed result
     → DisksGo m (disks_in s).row (disks_in s).low (disks_in s).high (disks_in s).recv (disks_in t).low (disks_in t).high (disks_in t).recv (result_err result)
 disks_go {D} m (Open c) (Open d) (Open e) moment printed result r a =
-    serve_then m c d e result r.serve.1 (ap (λ (x : Parts D). high_disk x.high_store) r.rest) r.serve.0 a.serve
+    serve_then m c d e result r.serve.1 (ap (λ (x : Parts D). high_disk x.high_store) r.rest) r.serve.0 a.step.serve
 disks_go m (Open c) (Open d) (Shut e) moment printed result r a = absurd a
 disks_go m (Open c) (Shut d) t moment printed result r a = absurd a
 disks_go m (Shut c) mid t moment printed result r a = absurd r

@@ -12,10 +12,9 @@ use Rattle.two_worlds.specs.declared.pump.parts.Parts.{Parts}
 use Rattle.two_worlds.specs.declared.pump.state.BareDisks.{BareDisks}
 use Rattle.two_worlds.specs.declared.pump.state.PumpState.{PumpState}
 use Rattle.two_worlds.specs.declared.pump.state.PumpState.TheVariants.{Open, Shut}
-use Rattle.two_worlds.specs.Doing.{Does, NeverOverfills, Fails, LeavesFit, LeavesAlone}
-use Rattle.two_worlds.specs.Private.GoingOn.{WorksOn}
+use Rattle.two_worlds.specs.Doing.{NeverOverfills, Fails, LeavesFit, LeavesAlone}
 use Rattle.two_worlds.specs.Private.HighLooks.{Attaches, BreaksAttaching}
-use Rattle.two_worlds.specs.Private.Serving.{DisksServe}
+use Rattle.two_worlds.specs.Private.PartSteps.{PartStep}
 use Rattle.two_worlds.specs.Rooms.{DisksGo}
 use Rattle.two_worlds.specs.Standing.{bare_of, bare_disk}
 use Rattle.two_worlds.specs.States.{disks_in, is_down_in, IsOpenWith, StandsIn}
@@ -62,9 +61,6 @@ pub record Reopens {D : Type 0} (m : Meaning D) (c : Parts D) (t : PumpState D) 
 -- the receiver of these parts attached at this moment, which printed this and led to these
 pub record Reattaches {D : Type 0} (m : Meaning D) (c d : Parts D) (moment : ℕ) (printed : List Event)
     (result : Result (Unit {0}) Stop) : Type 0 where
-  pub does : Does (Attaches c.row moment) (BreaksAttaching c.row moment) NeverOverfills m c d [] printed result
-  pub works : WorksOn m d result
-  pub serve : DisksServe m c d result
+  pub step : PartStep (Attaches c.row moment) (BreaksAttaching c.row moment) NeverOverfills m c d [] printed result
   pub low : LeavesAlone roles.Low c d
   pub recv : LeavesAlone roles.Recv c d
-  pub row : d.row ≡ c.row

@@ -9,10 +9,9 @@ ghost use Rattle.script_reader.specs.Breaks.{IsUntaken};
 ghost use Rattle.two_worlds.specs.Printing.{lines_in};
 ghost use Rattle.two_worlds.specs.Working.{IsAble};
 ghost use Rattle.two_worlds.specs.Standing.{Stands};
-ghost use Rattle.two_worlds.specs.Doing.{Does, LeavesAlone};
-ghost use Rattle.two_worlds.specs.Private.GoingOn.{WorksOn};
+ghost use Rattle.two_worlds.specs.Doing.{LeavesAlone};
+ghost use Rattle.two_worlds.specs.Private.PartSteps.{PartStep};
 ghost use Rattle.two_worlds.specs.Private.LineSteps.{RefusesAhead};
-ghost use Rattle.two_worlds.specs.Private.Serving.{DisksServe};
 
 use crate::applied::Stop;
 use crate::printing::put_taken;
@@ -30,21 +29,18 @@ impl<D: Disk> Parts<D> {
         requires able { IsAble D.told self.old }
         requires back { back < length self.old.sent.items }
         requires out { length out.old.items ≤ 3 }
-        ensures does { Does (λ p q printed. IsCarried self.old.row p back q printed)
+        ensures step { PartStep (λ p q printed. IsCarried self.old.row p back q printed)
             (λ role p q printed. (role ≡ roles.Recv) × IsUntaken p back q × (printed ≡ []))
             (λ p q printed end size_of_message size. (q ≡ p) × IsOverfull p.world back end size_of_message size
             × (printed ≡ []))
             D.told self.old self.new (lines_in out.old.items) (lines_in out.new.items) result }
-        ensures works { WorksOn D.told self.new result }
         ensures ahead { RefusesAhead self.old self.new (lines.Carry self.old.row.id back) (lines_in out.old.items)
             (lines_in out.new.items) }
-        ensures serve { DisksServe D.told self.old self.new result }
         ensures low { LeavesAlone roles.Low self.old self.new }
         ensures high { LeavesAlone roles.High self.old self.new }
         ensures out { length out.new.items ≤ length out.old.items + 1 }
         ensures returned { OnOk result ((p : Past) → Stands D.told self.old p → 0 < length self.new.returned.items) }
         ensures moment { self.new.moment ≡ self.old.moment }
-        ensures row { self.new.row ≡ self.old.row }
     {
         let Some(item) = self.sent.nth_back(back as usize) else {
             unreachable!()

@@ -13,7 +13,8 @@ ghost use Rattle.script_reader.specs.Highs.{IsHighLook, IsReturn, place};
 ghost use Rattle.script_reader.specs.Breaks.{IsUnremoved};
 ghost use Rattle.two_worlds.specs.Standing.{Stands, bare_of};
 ghost use Rattle.two_worlds.specs.Working.{IsAble};
-ghost use Rattle.two_worlds.specs.Doing.{Does, DoesFrom, NeverBreaks, NeverOverfills, LeavesAlone};
+ghost use Rattle.two_worlds.specs.Doing.{DoesFrom, NeverBreaks, NeverOverfills, LeavesAlone};
+ghost use Rattle.two_worlds.specs.Private.PartSteps.{PartStep};
 ghost use Rattle.two_worlds.specs.Private.GoingOn.{WorksOn};
 ghost use Rattle.two_worlds.specs.Private.LineSteps.{RefusesAhead};
 ghost use Rattle.two_worlds.specs.Private.Serving.{DisksServe};
@@ -134,17 +135,14 @@ impl<D: Disk> Parts<D> {
         requires order { self.old.moment ≤ moment }
         requires moment { moment ≤ 2 ^ 62 }
         requires out { length out.old.items ≤ 3 }
-        ensures does { Does (λ p q printed. IsHighLook self.old.row p moment None q printed)
+        ensures step { PartStep (λ p q printed. IsHighLook self.old.row p moment None q printed)
             NeverBreaks NeverOverfills D.told self.old self.new (lines_in out.old.items) (lines_in out.new.items)
             result }
-        ensures works { WorksOn D.told self.new result }
         ensures goes { is_some (high.hand_of self.new.high) ≡ true → goes_on_by self.old ≡ true }
-        ensures serve { DisksServe D.told self.old self.new result }
         ensures low { LeavesAlone roles.Low self.old self.new }
         ensures high { LeavesAlone roles.High self.old self.new }
         ensures recv { LeavesAlone roles.Recv self.old self.new }
         ensures out { length out.new.items ≤ length out.old.items + 1 }
-        ensures row { self.new.row ≡ self.old.row }
         ensures moment { self.new.moment ≡ moment }
     {
         self.look_with(moment, false, out)
@@ -172,17 +170,14 @@ impl<D: Disk> Parts<D> {
         requires moment { moment ≤ 2 ^ 62 }
         requires back { back < length self.old.returned.items }
         requires out { length out.old.items ≤ 2 }
-        ensures does { Does (λ p q printed. IsReturn self.old.row p moment (place p.world.returned back) q printed)
+        ensures step { PartStep (λ p q printed. IsReturn self.old.row p moment (place p.world.returned back) q printed)
             (λ role p q printed. (role ≡ roles.High)
             × IsUnremoved p moment (Some (place p.world.returned back)) q × (printed ≡ []))
             NeverOverfills D.told self.old self.new (lines_in out.old.items) (lines_in out.new.items) result }
-        ensures works { WorksOn D.told self.new result }
         ensures ahead { RefusesAhead self.old self.new (lines.Return self.old.row.id moment back)
             (lines_in out.old.items) (lines_in out.new.items) }
-        ensures serve { DisksServe D.told self.old self.new result }
         ensures low { LeavesAlone roles.Low self.old self.new }
         ensures recv { LeavesAlone roles.Recv self.old self.new }
-        ensures row { self.new.row ≡ self.old.row }
     {
         self.taken.kind = Kind::Taken;
         self.taken.number = self.number_back(back);
@@ -198,13 +193,10 @@ impl<D: Disk> Parts<D> {
         requires order { self.old.moment ≤ moment }
         requires moment { moment ≤ 2 ^ 62 }
         requires out { length out.old.items ≤ 1 }
-        ensures does { Does (Attaches self.old.row moment) (BreaksAttaching self.old.row moment)
+        ensures step { PartStep (Attaches self.old.row moment) (BreaksAttaching self.old.row moment)
             NeverOverfills D.told self.old self.new (lines_in out.old.items) (lines_in out.new.items) result }
-        ensures works { WorksOn D.told self.new result }
-        ensures serve { DisksServe D.told self.old self.new result }
         ensures low { LeavesAlone roles.Low self.old self.new }
         ensures recv { LeavesAlone roles.Recv self.old self.new }
-        ensures row { self.new.row ≡ self.old.row }
     {
         let count = self.receiver.count();
         put(

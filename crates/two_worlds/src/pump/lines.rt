@@ -10,7 +10,8 @@ ghost use Rattle.script_reader.specs.Steps.{IsCarriedBack};
 ghost use Rattle.script_reader.specs.Breaks.{BreaksOff};
 ghost use Rattle.two_worlds.specs.Printing.{lines_in};
 ghost use Rattle.two_worlds.specs.Working.{IsAble};
-ghost use Rattle.two_worlds.specs.Doing.{Does, LeavesAlone};
+ghost use Rattle.two_worlds.specs.Doing.{LeavesAlone};
+ghost use Rattle.two_worlds.specs.Private.PartSteps.{PartStep};
 ghost use Rattle.two_worlds.specs.Private.GoingOn.{WorksOn};
 ghost use Rattle.two_worlds.specs.Private.Serving.{DisksServe};
 ghost use Rattle.two_worlds.specs.Private.LineSteps.{IsOverfullSent, Runs, Tried};
@@ -74,13 +75,10 @@ impl<D: Disk> Parts<D> {
         requires moment { moment ≤ 2 ^ 62 }
         requires sent { 0 < length self.old.sent.items }
         requires out { length out.old.items ≤ 1 }
-        ensures does { Does (λ p q printed. (n : ℕ) → IsCarriedBack self.old.row (Some n) p moment q printed)
+        ensures step { PartStep (λ p q printed. (n : ℕ) → IsCarriedBack self.old.row (Some n) p moment q printed)
             (λ role p q printed. BreaksOff self.old.row p moment role q printed)
             IsOverfullSent D.told self.old self.new (lines_in out.old.items) (lines_in out.new.items) result }
-        ensures works { WorksOn D.told self.new result }
-        ensures serve { DisksServe D.told self.old self.new result }
         ensures low { LeavesAlone roles.Low self.old self.new }
-        ensures row { self.new.row ≡ self.old.row }
     {
         self.carry(0, out)?;
         // A receiver whose disk tells nothing may refuse it, and then nothing has come back.

@@ -37,7 +37,7 @@ returns-in-High g c =
     let is = ap (line_with c.args.bytes.now) c.in-High.is in
     let e = c.look_high.ensures in
     tried m s line c.clear.new.self.items c.clear.ensures d now c.look_high.result own is (test_as s true line own is (sym c.if-is_timely-3.ensures))
-    (ran_by m s d own out now c.look_high.result tt (high_runs m s d out now c.look_high.result own c.in-High.session c.in-High.moment refl e.does) e.works (λ none. absurd none) e.serve e.row)
+    (ran_by m s d own out now c.look_high.result tt (high_runs m s d out now c.look_high.result own c.in-High.session c.in-High.moment refl e.step.does) e.step.works (λ none. absurd none) e.step.serve e.step.row)
 
 pub returns-in-Carry : goal.returns-in-Carry
 returns-in-Carry g c =
@@ -51,7 +51,7 @@ returns-in-Carry g c =
     let is = ap (line_with c.args.bytes.now) c.in-Carry.is in
     let e = c.carry.ensures in
     tried m s line c.clear.new.self.items c.clear.ensures d now c.carry.result own is (test_as s true line own is (sym c.if-can_carry.ensures))
-    (ran_by m s d own out now c.carry.result tt (carry_runs m s d out now c.carry.result own c.in-Carry.session c.in-Carry.back refl e.does) e.works e.ahead e.serve e.row)
+    (ran_by m s d own out now c.carry.result tt (carry_runs m s d out now c.carry.result own c.in-Carry.session c.in-Carry.back refl e.step.does) e.step.works e.ahead e.step.serve e.step.row)
 
 pub returns-in-Return : goal.returns-in-Return
 returns-in-Return g c =
@@ -65,7 +65,7 @@ returns-in-Return g c =
     let is = ap (line_with c.args.bytes.now) c.in-Return.is in
     let e = c.take_back.ensures in
     tried m s line c.clear.new.self.items c.clear.ensures d now c.take_back.result own is (test_as s true line own is (sym c.if-can_return.ensures))
-    (ran_by m s d own out now c.take_back.result tt (return_runs m s d out now c.take_back.result own c.in-Return.session c.in-Return.moment c.in-Return.back refl e.does) e.works e.ahead e.serve e.row)
+    (ran_by m s d own out now c.take_back.result tt (return_runs m s d out now c.take_back.result own c.in-Return.session c.in-Return.moment c.in-Return.back refl e.step.does) e.step.works e.ahead e.step.serve e.step.row)
 
 pub returns-in-Done : goal.returns-in-Done
 returns-in-Done g c =

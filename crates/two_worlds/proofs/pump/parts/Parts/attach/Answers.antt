@@ -15,38 +15,34 @@ pub look_with-requires-clause-back : goal.look_with-requires-clause-back
 look_with-requires-clause-back g c = λ p s.
     (let comes = attach_comes g.D.Disk.told (numbered c.args.self.now Attach c.count-count.result) p s c.count-count.result c.count-count.ensures in (true, comes.0, comes.1))
 
-pub returns-clause-does : goal.returns-clause-does
-returns-clause-does g c = λ p s.
-    let m = g.D.Disk.told in
-    let d = c.args.self.now in
-    let row = d.row in
-    let moment = c.args.moment in
-    let n = c.count-count.result in
-    let now = numbered d Attach n in
-    let comes = attach_comes m d p s n c.count-count.ensures in
-    let count = count_is m d p s n c.count-count.ensures in
-    let last = comes.1.3 in
-    does_after m d now c.look_with.new.self (lines_in c.args.out.now.items) (lines_in c.put.new.out.items) (lines_in c.look_with.new.out.items) (AttachLine row.id moment n) p
-    (LeadsWith row moment true comes.0) (Attaches row moment) (BreaksWith moment comes.0) (BreaksAttaching row moment) c.look_with.result c.put.ensures.items
-    (λ q more leads. leads_attaching row p moment n comes.0 q more count last leads)
-    (λ role q more breaks. breaks_attaching row p moment n comes.0 role q more count last breaks)
-    (λ q f. record { low = f.low; high = f.high; recv = f.recv })
-    (c.look_with.ensures.does p (stands_numbered m d Attach n p s) true comes.0 comes.1)
-
-pub returns-clause-serve : goal.returns-clause-serve
-returns-clause-serve g c = c.look_with.ensures.serve
-
-pub returns-clause-works : goal.returns-clause-works
-returns-clause-works g c = c.look_with.ensures.works
+pub returns-clause-step : goal.returns-clause-step
+returns-clause-step g c = record {
+  does = λ p s.
+      let m = g.D.Disk.told in
+      let d = c.args.self.now in
+      let row = d.row in
+      let moment = c.args.moment in
+      let n = c.count-count.result in
+      let now = numbered d Attach n in
+      let comes = attach_comes m d p s n c.count-count.ensures in
+      let count = count_is m d p s n c.count-count.ensures in
+      let last = comes.1.3 in
+      does_after m d now c.look_with.new.self (lines_in c.args.out.now.items) (lines_in c.put.new.out.items) (lines_in c.look_with.new.out.items) (AttachLine row.id moment n) p
+      (LeadsWith row moment true comes.0) (Attaches row moment) (BreaksWith moment comes.0) (BreaksAttaching row moment) c.look_with.result c.put.ensures.items
+      (λ q more leads. leads_attaching row p moment n comes.0 q more count last leads)
+      (λ role q more breaks. breaks_attaching row p moment n comes.0 role q more count last breaks)
+      (λ q f. record { low = f.low; high = f.high; recv = f.recv })
+      (c.look_with.ensures.does p (stands_numbered m d Attach n p s) true comes.0 comes.1);
+  works = c.look_with.ensures.works;
+  serve = c.look_with.ensures.serve;
+  row = c.look_with.ensures.row;
+}
 
 pub returns-clause-low : goal.returns-clause-low
 returns-clause-low g c = c.look_with.ensures.low
 
 pub returns-clause-recv : goal.returns-clause-recv
 returns-clause-recv g c = c.look_with.ensures.recv
-
-pub returns-clause-row : goal.returns-clause-row
-returns-clause-row g c = c.look_with.ensures.row
 
 pub look_with-requires-clause-order : goal.look_with-requires-clause-order
 look_with-requires-clause-order g c = c.requires.order

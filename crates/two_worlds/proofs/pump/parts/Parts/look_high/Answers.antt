@@ -1,5 +1,7 @@
 use Rattle.std.proofs.Common.{false, None}
 use Rattle.two_worlds.proofs.pump.parts.Parts.look_high.Goals as goal
 
-pub returns-clause-does : goal.returns-clause-does
-returns-clause-does g c = λ p s. c.look_with.ensures.does p s false None tt
+pub returns-clause-step : goal.returns-clause-step
+returns-clause-step g c =
+    let e = c.look_with.ensures in
+    record { does = λ p s. e.does p s false None tt; works = e.works; serve = e.serve; row = e.row }

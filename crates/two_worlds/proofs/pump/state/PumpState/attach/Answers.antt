@@ -1,7 +1,8 @@
 use Rattle.std.proofs.Common.{◌≡◌, ◌≤◌, List, [], ◌∷◌, length, refl, sym, subst, arith}
 use Rattle.script_reader.specs.declared.event.Event.{Event}
 use Rattle.script_reader.specs.declared.event.EventHead.{EventHead}
-use Rattle.two_worlds.specs.Doing.{Does, NeverOverfills}
+use Rattle.two_worlds.specs.Doing.{NeverOverfills}
+use Rattle.two_worlds.specs.Private.PartSteps.{PartStep}
 use Rattle.two_worlds.specs.Printing.{lines_in}
 use Rattle.two_worlds.specs.Private.HighLooks.{Attaches, BreaksAttaching}
 use Rattle.two_worlds.specs.Private.Reopening.{Reattaches}
@@ -26,11 +27,8 @@ returns g c =
     let e = c.attach.ensures in
     subst (λ (x : PumpState _). IsOpenWith (λ p. Reattaches m p c.attach.new.self c.args.moment (lines_in c.attach.new.out.items) c.attach.result) x) (sym c.in-Open.is)
     (record {
-      does = subst (λ (printed : List Event). Does (Attaches c.in-Open.parts.row c.args.moment) (BreaksAttaching c.in-Open.parts.row c.args.moment) NeverOverfills m c.in-Open.parts c.attach.new.self printed (lines_in c.attach.new.out.items) c.attach.result)
-          (no_lines c.args.out.now.items c.requires.out) e.does;
-      works = e.works;
-      serve = e.serve;
+      step = subst (λ (printed : List Event). PartStep (Attaches c.in-Open.parts.row c.args.moment) (BreaksAttaching c.in-Open.parts.row c.args.moment) NeverOverfills m c.in-Open.parts c.attach.new.self printed (lines_in c.attach.new.out.items) c.attach.result)
+          (no_lines c.args.out.now.items c.requires.out) e.step;
       low = e.low;
       recv = e.recv;
-      row = e.row;
     })

@@ -90,7 +90,8 @@ impl<D: Disk> PumpState<D> {
     /// A `receiver-restart` line: the receiver is opened again from its disk, and attaches to the high
     /// process. `Stop::Device` says that the receiver's disk failed in the opening, and the pump is then
     /// shut, or the high disk in the removal of a message that the receiver has. `Stop::Disk` never
-    /// comes where the disks tell what they hold.
+    /// comes where the disks tell what they hold. Apart, since its parts take much of the stack.
+    #[inline(never)]
     pub fn restart_receiver(
         &mut self,
         session: u32,

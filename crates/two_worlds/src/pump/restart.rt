@@ -122,7 +122,8 @@ impl<D: Disk> PumpState<D> {
         }
     }
 
-    /// A `restart` line: both processes are opened again.
+    /// A `restart` line: both processes are opened again. Apart, since its parts take much of the stack.
+    #[inline(never)]
     pub fn restart(
         &mut self,
         session: u32,

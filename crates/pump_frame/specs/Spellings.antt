@@ -26,6 +26,11 @@ header_of kind session number size =
 unfoldable pub spelling : Frame → List ℕ
 spelling f = header_of f.kind f.session f.number (length f.payload) ++ f.payload
 
+-- the frame of these parts
+abbrev pub frame_of : Kind → ℕ → ℕ → List ℕ → Frame
+frame_of kind session number payload =
+    record { kind = kind; session = session; number = number; payload = payload }
+
 -- a lawful frame begins with these bytes
 abbrev pub BeginsSpelling : List ℕ → Type 0
 BeginsSpelling bytes = (f : Frame) × (rest : List ℕ) × IsLawful f × (spelling f ≡ bytes ++ rest)

@@ -25,4 +25,4 @@ pub use name::Name;
 pub use payload::Payload;
 pub use reader::{Fed, Reader, Step};
 pub use row::{GREATEST_CAPACITY, LEAST_CAPACITY, RowKey, SessionRow};
-pub use spelling::encode;
+pub use spelling::{encode, encode_parts};

@@ -1,9 +1,10 @@
 // The bytes of a frame.
 ghost use Rattle.std.specs.Prelude.{◌≡◌};
 ghost use Rattle.pump_frame.specs.Frames.{IsLawful};
-ghost use Rattle.pump_frame.specs.Spellings.{kind_byte, header_of, spelling};
+ghost use Rattle.pump_frame.specs.Spellings.{kind_byte, header_of, frame_of, spelling};
 
 use crate::frame::{Frame, Kind};
+use crate::payload::Payload;
 use arrayvec::ArrayVec;
 use byteorder::{BigEndian, ByteOrder};
 
@@ -36,19 +37,34 @@ fn header(kind: Kind, session: u32, number: u64, length: u16) -> [u8; 18]
     bytes
 }
 
-/// The frame's bytes (`docs/formats.md`, "Frames"). `into` then holds these bytes alone.
+/// The bytes of the frame of these parts (`docs/formats.md`, "Frames"), which are read where they
+/// lie. `into` then holds these bytes alone.
+pub fn encode_parts(
+    kind: Kind,
+    session: u32,
+    number: u64,
+    payload: &Payload,
+    into: &mut ArrayVec<u8, 1042>,
+)
+    ensures { into.new.items ≡ spelling (frame_of kind session number payload.now) }
+{
+    let payload = payload.as_slice();
+    let header = header(kind, session, number, payload.len() as u16);
+    into.clear();
+    into.try_extend_from_slice(&header).unwrap();
+    into.try_extend_from_slice(payload).unwrap();
+}
+
+/// The frame's bytes, as `encode_parts` gives them.
 pub fn encode(frame: &Frame, into: &mut ArrayVec<u8, 1042>)
     requires { IsLawful frame.now }
     ensures { into.new.items ≡ spelling frame.now }
 {
-    let payload = frame.payload.as_slice();
-    let header = header(
+    encode_parts(
         frame.kind,
         frame.session,
         frame.number,
-        payload.len() as u16,
+        &frame.payload,
+        into,
     );
-    into.clear();
-    into.try_extend_from_slice(&header).unwrap();
-    into.try_extend_from_slice(payload).unwrap();
 }

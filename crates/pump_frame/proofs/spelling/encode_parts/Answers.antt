@@ -1,6 +1,6 @@
 use Rattle.std.proofs.Common.{refl}
 use Rattle.pump_frame.specs.Spellings.{spelling}
-use Rattle.pump_frame.proofs.spelling.encode.Goals as goal
+use Rattle.pump_frame.proofs.spelling.encode_parts.Goals as goal
 
 pub returns : goal.returns
 unfolding spelling

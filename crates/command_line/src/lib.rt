@@ -1,5 +1,8 @@
-//! The words of the command line: which command they are, read by `clap`. A command is spelled in one
-//! way alone; whatever else `clap` takes, such as words for help, is no command.
+//! The words of the command line: which command they are, read by `clap`. `command_of` answers a `Command`
+//! with its values, such as a `TableName`, or a `WordsFault`. A command is spelled in one way alone: what
+//! `clap` found is spelled back and compared, so whatever else `clap` takes, such as words for help or a sign
+//! before a number, is no command. `USAGE` is the list of all commands, for people. It knows what no command
+//! does.
 #![tactic(auto)]
 
 mod command;

@@ -1,7 +1,9 @@
-//! A disk as the stores see it: what its calls may change, what a crash may leave of it, and two
-//! forms in memory. What a disk tells of itself is the record `Meaning` of `specs/Disk.antt`. A
-//! shelf, from which disks are taken and to which they come back, tells the `Holdings` of
-//! `specs/Shelf.antt`.
+//! A disk as the stores see it (`Disk`): what its calls may change, what a crash may leave of it, and two
+//! forms in memory, `MemDisk`, which tells every image that a crash may leave, and `PlainDisk`, which tells
+//! when its next call fails. What a disk tells of itself is the record `Meaning` of `specs/Disk.antt`. A
+//! `Shelf`, from which disks are taken by their names (`DiskName`, `Role`) and to which they come back, tells
+//! the `Holdings` of `specs/Shelf.antt`; `MemShelf` is one in memory. It knows no session and no byte of any
+//! format.
 #![tactic(auto)]
 
 mod contents;

@@ -1,4 +1,8 @@
-//! The moving average of High's acknowledgement times.
+//! The moving average of High's acknowledgement times. A `Window` holds the last times of a session, in
+//! microseconds, with their sum, so a push costs the same for every window size. Its `average` is what comes
+//! down to Low: the mean of the last times, or in a coarse session the mean's level (`down`, `level`,
+//! `is_level`), one of a few numbers to which a mean is rounded up. It knows neither where a time comes from
+//! nor who is told the average.
 #![tactic(auto)]
 
 ghost use Rattle.std.specs.Prelude.{◌≡◌, ℕ, ◌+◌, ◌-◌, ◌^◌, ◌<◌, ◌≤◌, List, [], ◌∷◌, ◌++◌, length, min, IfOk};

@@ -1,5 +1,9 @@
-//! The passage between the two processes: what its ends promise, both ends on one thread, and an end
-//! for each of two threads.
+//! The passage between the two processes, the bounded buffer of the relay: what its two ends promise
+//! (`LowEnd`, `HighEnd`, and for ends that may wait `WaitLowEnd`, `WaitHighEnd`), both ends on one thread
+//! (`PlainEnds`), and an end for each of two threads over a queue (`QueuePassage`, `QueueLow`, `QueueHigh`).
+//! `Calm` turns an end that waits for nobody into one that may. The low end forwards messages and reads the
+//! average; the high end takes messages up and publishes times. It knows no process and no disk; `relay_ring`
+//! has a second form between threads.
 #![tactic(auto)]
 
 mod ends;

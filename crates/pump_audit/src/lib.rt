@@ -1,4 +1,8 @@
-//! Checks a finished record of the low side, and compares two.
+//! Checks a finished record of the low side, and compares two. `audit` reads a record line by line, and
+//! answers a `Verdict`: it is clean, or the first line that is wrong and why (`AuditFault`). `compare` reads
+//! two records with a line between them and answers how far their low sides agree (`Compared`, `What`). The
+//! laws say what a clean record means: its numbers, its replies, and that a verdict is the only one. It knows
+//! the grammar of scripts, and no process, no pump and no disk.
 #![tactic(auto)]
 
 mod auditing;

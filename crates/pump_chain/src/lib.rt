@@ -1,4 +1,8 @@
-//! Two pumps in a row: what the receiver of the first one took is sent on to the second one.
+//! Two pumps in a row: what the receiver of the first one took is sent on to the second one. A `Chain` has
+//! both pumps on one thread, over the six disks of two sessions (`Six`), and the place in the first
+//! receiver's log from which the next message is sent on. `NotChained` and `ChainWhy` say why two sessions
+//! cannot be joined. The laws say that a chain's lines are a script of two sessions, and that all four lists
+//! of messages are prefixes. It knows no shelf and no script's bytes: `chain_replay` reads the lines.
 #![tactic(auto)]
 
 mod chain;

@@ -1,4 +1,8 @@
-//! The values that every layer of the relay speaks of: names, payloads, frames and session rows.
+//! The values that every layer of the relay speaks of: names of parties (`Name`), what a message carries
+//! (`Payload`), the frames on the wire (`Frame`, `Kind`) with their bytes (`encode`, `Reader`), the row of a
+//! session (`SessionRow`), a message with its number (`Item`), and how times are averaged (`Averaging`). Its
+//! specs define delays, averages and levels, lawful rows, and how faults are counted (`raised`). The laws say
+//! that each frame has one spelling and each stream one reading. It knows no link, no disk and no clock.
 #![tactic(auto)]
 
 mod averaging;

@@ -1,6 +1,8 @@
-//! The outside of the relay as traits: streams of bytes, links, doors and ports, clocks and random
-//! words, each with a form in memory. What can fail counts its failures, so that a caller can show
-//! that a fault was not its own.
+//! The outside of the relay as traits: streams of bytes (`Source`, `Sink`), links, doors and ports (`Link`,
+//! `Door`, `Ports`), clocks (`Clock`) and random words (`Words`), each with a form in memory, such as
+//! `MemLink` or `StepClock`. Each trait says what an object tells of itself: what it will give, what it took,
+//! and how often it failed. What can fail counts its failures, so that a caller can show that a fault was not
+//! its own. It knows no process and no machine; `adapters` has the forms over the machine.
 #![tactic(auto)]
 
 mod clock;

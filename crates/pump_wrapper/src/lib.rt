@@ -1,5 +1,8 @@
-//! Files over the pump: a file as a list of messages, and the file again from the messages that a
-//! receiver has. The messages are those of `docs/formats.md`, "Files as messages".
+//! Files over the pump: a file as a list of messages (`Cutter`), and the file again from the messages that a
+//! receiver has (`gather`, `Gathered`). `wrap` sends a file over a session's pump until its receiver has all
+//! of it; `skip_received` finds that the file begins with the messages that a receiver has, and goes on
+//! behind them. `WrapEnd`, `GatherFault` and `CompareFault` say what went wrong. The messages are those of
+//! `docs/formats.md`, "Files as messages". It knows no table, no shelf and no terminal.
 #![tactic(auto)]
 
 mod compare;

@@ -1,5 +1,9 @@
-//! What the three disks of a session stand for when it begins, and why they are refused: the first
-//! cause in the order of `docs/formats.md`, "Disks". No disk is mended: each comes back as it was.
+//! What the three disks of a session stand for when it begins, and why they are refused: the first cause in
+//! the order of `docs/formats.md`, "Disks" (`Why`). `open_pump` opens the disks of a relay and deals the
+//! messages that are not removed out to the hands and the passage; `open_receiver` opens the receiver's;
+//! `agree` compares the low disk with the receiver's; `migrate` writes what a session has on new disks. No
+//! disk is mended: each comes back as it was. The laws say that all disks that a crash leaves of a lawful
+//! world open. It knows no shelf and no script.
 #![tactic(auto)]
 
 mod compare;

@@ -1,4 +1,9 @@
 //! The two workers of a session, side by side in two threads, and the record of what the low one did.
+//! `serve_low` and `serve_high` work on one connection, `low_rounds` and `high_rounds` at a door, round by
+//! round (`docs/design.md`, "Serving"). `run_pair` and `try_run_pair` let two works run side by side; a
+//! `Gate` may stop a worker between two rounds, and a `Watch` is told what it does. `append_look` and its
+//! like spell the record's lines. The laws say that a record replays to the replies that Low got. It knows
+//! links, doors and clocks as traits, and no file, no table and no status.
 #![tactic(auto)]
 
 mod gate;

@@ -1,5 +1,9 @@
-//! The lines of a script and of its transcript: which bytes they are, and a reader of lines from a
-//! stream.
+//! The lines of a script and of its transcript: which bytes they are, and what they mean. `Lines` reads a
+//! stream line by line in a room of its own; `read_line` reads one `Line`, and `print_event` and
+//! `print_fault` spell what is printed (`Event`, `Fault`). A `LineHead` or an `EventHead` is the same without
+//! the bytes of a message, which stand in a room of the caller's. A `Generator` makes a script from a number.
+//! Its specs define what a script of one or several sessions prints, and its laws say that a script has one
+//! transcript. It knows no pump and no disk's bytes.
 #![tactic(auto)]
 
 mod body;

@@ -1,5 +1,8 @@
-//! The table of sessions that an operator writes: a TOML document, read to its rows, or refused with
-//! the first thing that is wrong with it. `docs/formats.md` has its keys and ranges.
+//! The table of sessions that an operator writes: a TOML document, read to its rows, or refused with the
+//! first thing that is wrong with it. A `Table` has the rows in the order of the document and finds one by
+//! its session's number; a `TableFault` says which row and which key is at fault. `docs/formats.md`, "Session
+//! table", has the keys and their ranges. It knows no file: its caller brings the bytes, 65,536 of them at
+//! most.
 #![tactic(auto)]
 
 mod document;

@@ -1,6 +1,9 @@
-//! Counts and messages on disks, which outlive a crash at any moment: the register of two numbers,
-//! the stores of the low and the high process, and new disks. The bytes are those of
-//! `docs/formats.md`, "Disks".
+//! Counts and messages on disks, which outlive a crash at any moment. A `Register` holds two numbers that
+//! change whole or not at all; `LowStore` keeps the messages of the low process in slots beside it, and
+//! `HighStore` the count of the high process. `begin` and `finish`, or `format`, make new disks of a row, and
+//! `disk_size`, `letter` and `slot_place` say where things lie on one. After a call that failed a store is
+//! shut, and says which fault it was (`Device`). The bytes are those of `docs/formats.md`, "Disks". It knows
+//! no process and no frame.
 #![tactic(auto)]
 
 mod bytes;

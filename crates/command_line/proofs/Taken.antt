@@ -11,26 +11,44 @@ use Rattle.clap.proofs.OnLiterals.{clap_on_literals}
 use Rattle.command_line.specs.Commands.{IsSession, IsLooking, IsCarrying, IsCommand, AreWordsOf}
 use Rattle.command_line.specs.TimeLists.{AreTimes, times_word}
 use Rattle.command_line.specs.Found.{GivesSession, GivesLooks, GivesFrom, GivesFolder, GivesNewSession, Gives, GivesIn}
-use Rattle.command_line.specs.Program.{bare, leaf_two, leaf_three, leaf_four, program, value_rule}
+use Rattle.command_line.specs.Program.{bare, leaf_two, leaf_three, leaf_four, leaf_none, leaf_session, leaf_looks, leaf_folder, alone, program_of, value_rule}
 use Rattle.command_line.specs.declared.command.Command.{Command}
 use Rattle.command_line.specs.declared.command.Command.TheVariants.{Replay, Format, Show, Exercise, Race, Serve, Receive, Send, Append, Migrate, Wrap, Unwrap, Messages, Status, Audit, Compare, Chain, DropFiles, CollectFiles}
 use Rattle.command_line.proofs.PlainWalks.{behind, walks_on, passes_on, passed}
 use Rattle.command_line.proofs.Plain.{plain_decimal, plain_table, plain_times}
 
-pub simple : is_simple program ≡ true
+pub simple : (c : Command) → is_simple (program_of c) ≡ true
 unfolding clap_on_literals
-simple = refl
+simple Replay = refl
+simple (Format t n) = refl
+simple (Show t n) = refl
+simple (Exercise m n) = refl
+simple (Race m n ts) = refl
+simple (Serve t n k) = refl
+simple (Receive t n k) = refl
+simple (Send t n k) = refl
+simple (Append t n k) = refl
+simple (DropFiles t n k u) = refl
+simple (CollectFiles t n k u) = refl
+simple (Migrate t n u m) = refl
+simple (Wrap t n) = refl
+simple (Unwrap t n) = refl
+simple (Messages t n k) = refl
+simple (Status t n) = refl
+simple Audit = refl
+simple Compare = refl
+simple Chain = refl
 
 abbrev row : Text → Text → Row
 row id v = record { id = id; values = v ∷ []; count = None; source = Some CommandLine; reading = AsWritten }
 
 -- replay
 
-replay_taken : takes program (codes "replay" ∷ []) ≡ true
+replay_taken : takes (alone (leaf_none (codes "replay"))) (codes "replay" ∷ []) ≡ true
 unfolding clap_on_literals
 replay_taken = refl
 
-replay_met : subcommand_of program (codes "replay" ∷ []) ≡ Some (codes "replay", [])
+replay_met : subcommand_of (alone (leaf_none (codes "replay"))) (codes "replay" ∷ []) ≡ Some (codes "replay", [])
 unfolding clap_on_literals
 replay_met = refl
 
@@ -45,8 +63,8 @@ unfolding clap_on_literals
 table_rows x y xs ys h k = simp (h, k)
 
 session_taken : (name t : Text) (n : ℕ) → IsSession t n
-    → ((x y : ℕ) (xs ys : Text) → (x == 45) ≡ false → (y == 45) ≡ false → takes program (name ∷ (x ∷ xs) ∷ (y ∷ ys) ∷ []) ≡ true)
-    → takes program (name ∷ t ∷ decimal n ∷ []) ≡ true
+    → ((x y : ℕ) (xs ys : Text) → (x == 45) ≡ false → (y == 45) ≡ false → takes (alone (leaf_session name)) (name ∷ (x ∷ xs) ∷ (y ∷ ys) ∷ []) ≡ true)
+    → takes (alone (leaf_session name)) (name ∷ t ∷ decimal n ∷ []) ≡ true
 session_taken name t n h taken =
     let p = plain_table t h.0 in
     let q = plain_decimal n (omega (arith, h.1)) in
@@ -68,69 +86,69 @@ session_passes : (name : Text) (x y : ℕ) (xs ys : Text) → (x == 45) ≡ fals
 unfolding clap_on_literals
 session_passes name x y xs ys h k = simp (h, k)
 
-format_met : (t s : Text) → subcommand_of program (codes "format" ∷ t ∷ s ∷ []) ≡ Some (codes "format", rows_after table_rules [] (t ∷ s ∷ []))
+format_met : (t s : Text) → subcommand_of (alone (leaf_session (codes "format"))) (codes "format" ∷ t ∷ s ∷ []) ≡ Some (codes "format", rows_after table_rules [] (t ∷ s ∷ []))
 unfolding clap_on_literals
 format_met t s = refl
 
-format_taken : (x y : ℕ) (xs ys : Text) → (x == 45) ≡ false → (y == 45) ≡ false → takes program (codes "format" ∷ (x ∷ xs) ∷ (y ∷ ys) ∷ []) ≡ true
+format_taken : (x y : ℕ) (xs ys : Text) → (x == 45) ≡ false → (y == 45) ≡ false → takes (alone (leaf_session (codes "format"))) (codes "format" ∷ (x ∷ xs) ∷ (y ∷ ys) ∷ []) ≡ true
 unfolding clap_on_literals
 format_taken x y xs ys h k = ap (λ b. b && true) (session_passes (codes "format") x y xs ys h k)
 
-show_met : (t s : Text) → subcommand_of program (codes "show" ∷ t ∷ s ∷ []) ≡ Some (codes "show", rows_after table_rules [] (t ∷ s ∷ []))
+show_met : (t s : Text) → subcommand_of (alone (leaf_session (codes "show"))) (codes "show" ∷ t ∷ s ∷ []) ≡ Some (codes "show", rows_after table_rules [] (t ∷ s ∷ []))
 unfolding clap_on_literals
 show_met t s = refl
 
-show_taken : (x y : ℕ) (xs ys : Text) → (x == 45) ≡ false → (y == 45) ≡ false → takes program (codes "show" ∷ (x ∷ xs) ∷ (y ∷ ys) ∷ []) ≡ true
+show_taken : (x y : ℕ) (xs ys : Text) → (x == 45) ≡ false → (y == 45) ≡ false → takes (alone (leaf_session (codes "show"))) (codes "show" ∷ (x ∷ xs) ∷ (y ∷ ys) ∷ []) ≡ true
 unfolding clap_on_literals
 show_taken x y xs ys h k = ap (λ b. b && true) (session_passes (codes "show") x y xs ys h k)
 
-wrap_met : (t s : Text) → subcommand_of program (codes "wrap" ∷ t ∷ s ∷ []) ≡ Some (codes "wrap", rows_after table_rules [] (t ∷ s ∷ []))
+wrap_met : (t s : Text) → subcommand_of (alone (leaf_session (codes "wrap"))) (codes "wrap" ∷ t ∷ s ∷ []) ≡ Some (codes "wrap", rows_after table_rules [] (t ∷ s ∷ []))
 unfolding clap_on_literals
 wrap_met t s = refl
 
-wrap_taken : (x y : ℕ) (xs ys : Text) → (x == 45) ≡ false → (y == 45) ≡ false → takes program (codes "wrap" ∷ (x ∷ xs) ∷ (y ∷ ys) ∷ []) ≡ true
+wrap_taken : (x y : ℕ) (xs ys : Text) → (x == 45) ≡ false → (y == 45) ≡ false → takes (alone (leaf_session (codes "wrap"))) (codes "wrap" ∷ (x ∷ xs) ∷ (y ∷ ys) ∷ []) ≡ true
 unfolding clap_on_literals
 wrap_taken x y xs ys h k = ap (λ b. b && true) (session_passes (codes "wrap") x y xs ys h k)
 
-unwrap_met : (t s : Text) → subcommand_of program (codes "unwrap" ∷ t ∷ s ∷ []) ≡ Some (codes "unwrap", rows_after table_rules [] (t ∷ s ∷ []))
+unwrap_met : (t s : Text) → subcommand_of (alone (leaf_session (codes "unwrap"))) (codes "unwrap" ∷ t ∷ s ∷ []) ≡ Some (codes "unwrap", rows_after table_rules [] (t ∷ s ∷ []))
 unfolding clap_on_literals
 unwrap_met t s = refl
 
-unwrap_taken : (x y : ℕ) (xs ys : Text) → (x == 45) ≡ false → (y == 45) ≡ false → takes program (codes "unwrap" ∷ (x ∷ xs) ∷ (y ∷ ys) ∷ []) ≡ true
+unwrap_taken : (x y : ℕ) (xs ys : Text) → (x == 45) ≡ false → (y == 45) ≡ false → takes (alone (leaf_session (codes "unwrap"))) (codes "unwrap" ∷ (x ∷ xs) ∷ (y ∷ ys) ∷ []) ≡ true
 unfolding clap_on_literals
 unwrap_taken x y xs ys h k = ap (λ b. b && true) (session_passes (codes "unwrap") x y xs ys h k)
 
-status_met : (t s : Text) → subcommand_of program (codes "status" ∷ t ∷ s ∷ []) ≡ Some (codes "status", rows_after table_rules [] (t ∷ s ∷ []))
+status_met : (t s : Text) → subcommand_of (alone (leaf_session (codes "status"))) (codes "status" ∷ t ∷ s ∷ []) ≡ Some (codes "status", rows_after table_rules [] (t ∷ s ∷ []))
 unfolding clap_on_literals
 status_met t s = refl
 
-status_taken : (x y : ℕ) (xs ys : Text) → (x == 45) ≡ false → (y == 45) ≡ false → takes program (codes "status" ∷ (x ∷ xs) ∷ (y ∷ ys) ∷ []) ≡ true
+status_taken : (x y : ℕ) (xs ys : Text) → (x == 45) ≡ false → (y == 45) ≡ false → takes (alone (leaf_session (codes "status"))) (codes "status" ∷ (x ∷ xs) ∷ (y ∷ ys) ∷ []) ≡ true
 unfolding clap_on_literals
 status_taken x y xs ys h k = ap (λ b. b && true) (session_passes (codes "status") x y xs ys h k)
 
 -- the two that read records
 
-audit_taken : takes program (codes "audit" ∷ []) ≡ true
+audit_taken : takes (alone (leaf_none (codes "audit"))) (codes "audit" ∷ []) ≡ true
 unfolding clap_on_literals
 audit_taken = refl
 
-audit_met : subcommand_of program (codes "audit" ∷ []) ≡ Some (codes "audit", [])
+audit_met : subcommand_of (alone (leaf_none (codes "audit"))) (codes "audit" ∷ []) ≡ Some (codes "audit", [])
 unfolding clap_on_literals
 audit_met = refl
 
-compare_taken : takes program (codes "compare" ∷ []) ≡ true
+compare_taken : takes (alone (leaf_none (codes "compare"))) (codes "compare" ∷ []) ≡ true
 unfolding clap_on_literals
 compare_taken = refl
 
-compare_met : subcommand_of program (codes "compare" ∷ []) ≡ Some (codes "compare", [])
+compare_met : subcommand_of (alone (leaf_none (codes "compare"))) (codes "compare" ∷ []) ≡ Some (codes "compare", [])
 unfolding clap_on_literals
 compare_met = refl
 
-chain_taken : takes program (codes "chain" ∷ []) ≡ true
+chain_taken : takes (alone (leaf_none (codes "chain"))) (codes "chain" ∷ []) ≡ true
 unfolding clap_on_literals
 chain_taken = refl
 
-chain_met : subcommand_of program (codes "chain" ∷ []) ≡ Some (codes "chain", [])
+chain_met : subcommand_of (alone (leaf_none (codes "chain"))) (codes "chain" ∷ []) ≡ Some (codes "chain", [])
 unfolding clap_on_literals
 chain_met = refl
 
@@ -152,11 +170,11 @@ number_passes : (name : Text) (x y : ℕ) (xs ys : Text) → (x == 45) ≡ false
 unfolding clap_on_literals
 number_passes name x y xs ys h k = simp (h, k)
 
-exercise_met : (t s : Text) → subcommand_of program (codes "exercise" ∷ t ∷ s ∷ []) ≡ Some (codes "exercise", rows_after number_rules [] (t ∷ s ∷ []))
+exercise_met : (t s : Text) → subcommand_of (alone (leaf_two (codes "exercise") (codes "SEED") (codes "COUNT"))) (codes "exercise" ∷ t ∷ s ∷ []) ≡ Some (codes "exercise", rows_after number_rules [] (t ∷ s ∷ []))
 unfolding clap_on_literals
 exercise_met t s = refl
 
-exercise_taken : (x y : ℕ) (xs ys : Text) → (x == 45) ≡ false → (y == 45) ≡ false → takes program (codes "exercise" ∷ (x ∷ xs) ∷ (y ∷ ys) ∷ []) ≡ true
+exercise_taken : (x y : ℕ) (xs ys : Text) → (x == 45) ≡ false → (y == 45) ≡ false → takes (alone (leaf_two (codes "exercise") (codes "SEED") (codes "COUNT"))) (codes "exercise" ∷ (x ∷ xs) ∷ (y ∷ ys) ∷ []) ≡ true
 unfolding clap_on_literals
 exercise_taken x y xs ys h k = ap (λ b. b && true) (number_passes (codes "exercise") x y xs ys h k)
 
@@ -178,11 +196,11 @@ race_passes : (name : Text) (x y z : ℕ) (xs ys zs : Text) → (x == 45) ≡ fa
 unfolding clap_on_literals
 race_passes name x y z xs ys zs h k m = simp (h, k, m)
 
-race_met : (t s u : Text) → subcommand_of program (codes "race" ∷ t ∷ s ∷ u ∷ []) ≡ Some (codes "race", rows_after race_rules [] (t ∷ s ∷ u ∷ []))
+race_met : (t s u : Text) → subcommand_of (alone (leaf_three (codes "race") (codes "SEED") (codes "COUNT") (codes "TIMES"))) (codes "race" ∷ t ∷ s ∷ u ∷ []) ≡ Some (codes "race", rows_after race_rules [] (t ∷ s ∷ u ∷ []))
 unfolding clap_on_literals
 race_met t s u = refl
 
-race_taken : (x y z : ℕ) (xs ys zs : Text) → (x == 45) ≡ false → (y == 45) ≡ false → (z == 45) ≡ false → takes program (codes "race" ∷ (x ∷ xs) ∷ (y ∷ ys) ∷ (z ∷ zs) ∷ []) ≡ true
+race_taken : (x y z : ℕ) (xs ys zs : Text) → (x == 45) ≡ false → (y == 45) ≡ false → (z == 45) ≡ false → takes (alone (leaf_three (codes "race") (codes "SEED") (codes "COUNT") (codes "TIMES"))) (codes "race" ∷ (x ∷ xs) ∷ (y ∷ ys) ∷ (z ∷ zs) ∷ []) ≡ true
 unfolding clap_on_literals
 race_taken x y z xs ys zs h k m = ap (λ b. b && true) (race_passes (codes "race") x y z xs ys zs h k m)
 
@@ -197,8 +215,8 @@ unfolding clap_on_literals
 looks_rows x y z xs ys zs h k m = simp (h, k, m)
 
 looks_taken : (name t : Text) (n k : ℕ) → IsLooking t n k
-    → ((x y z : ℕ) (xs ys zs : Text) → (x == 45) ≡ false → (y == 45) ≡ false → (z == 45) ≡ false → takes program (name ∷ (x ∷ xs) ∷ (y ∷ ys) ∷ (z ∷ zs) ∷ []) ≡ true)
-    → takes program (name ∷ t ∷ decimal n ∷ decimal k ∷ []) ≡ true
+    → ((x y z : ℕ) (xs ys zs : Text) → (x == 45) ≡ false → (y == 45) ≡ false → (z == 45) ≡ false → takes (alone (leaf_looks name)) (name ∷ (x ∷ xs) ∷ (y ∷ ys) ∷ (z ∷ zs) ∷ []) ≡ true)
+    → takes (alone (leaf_looks name)) (name ∷ t ∷ decimal n ∷ decimal k ∷ []) ≡ true
 looks_taken name t n k h taken =
     let p = plain_table t h.0 in
     let q = plain_decimal n (omega (arith, h.1)) in
@@ -220,35 +238,35 @@ looks_passes : (name : Text) (x y z : ℕ) (xs ys zs : Text) → (x == 45) ≡ f
 unfolding clap_on_literals
 looks_passes name x y z xs ys zs h k m = simp (h, k, m)
 
-serve_met : (t s u : Text) → subcommand_of program (codes "serve" ∷ t ∷ s ∷ u ∷ []) ≡ Some (codes "serve", rows_after looks_rules [] (t ∷ s ∷ u ∷ []))
+serve_met : (t s u : Text) → subcommand_of (alone (leaf_looks (codes "serve"))) (codes "serve" ∷ t ∷ s ∷ u ∷ []) ≡ Some (codes "serve", rows_after looks_rules [] (t ∷ s ∷ u ∷ []))
 unfolding clap_on_literals
 serve_met t s u = refl
 
-serve_taken : (x y z : ℕ) (xs ys zs : Text) → (x == 45) ≡ false → (y == 45) ≡ false → (z == 45) ≡ false → takes program (codes "serve" ∷ (x ∷ xs) ∷ (y ∷ ys) ∷ (z ∷ zs) ∷ []) ≡ true
+serve_taken : (x y z : ℕ) (xs ys zs : Text) → (x == 45) ≡ false → (y == 45) ≡ false → (z == 45) ≡ false → takes (alone (leaf_looks (codes "serve"))) (codes "serve" ∷ (x ∷ xs) ∷ (y ∷ ys) ∷ (z ∷ zs) ∷ []) ≡ true
 unfolding clap_on_literals
 serve_taken x y z xs ys zs h k m = ap (λ b. b && true) (looks_passes (codes "serve") x y z xs ys zs h k m)
 
-receive_met : (t s u : Text) → subcommand_of program (codes "receive" ∷ t ∷ s ∷ u ∷ []) ≡ Some (codes "receive", rows_after looks_rules [] (t ∷ s ∷ u ∷ []))
+receive_met : (t s u : Text) → subcommand_of (alone (leaf_looks (codes "receive"))) (codes "receive" ∷ t ∷ s ∷ u ∷ []) ≡ Some (codes "receive", rows_after looks_rules [] (t ∷ s ∷ u ∷ []))
 unfolding clap_on_literals
 receive_met t s u = refl
 
-receive_taken : (x y z : ℕ) (xs ys zs : Text) → (x == 45) ≡ false → (y == 45) ≡ false → (z == 45) ≡ false → takes program (codes "receive" ∷ (x ∷ xs) ∷ (y ∷ ys) ∷ (z ∷ zs) ∷ []) ≡ true
+receive_taken : (x y z : ℕ) (xs ys zs : Text) → (x == 45) ≡ false → (y == 45) ≡ false → (z == 45) ≡ false → takes (alone (leaf_looks (codes "receive"))) (codes "receive" ∷ (x ∷ xs) ∷ (y ∷ ys) ∷ (z ∷ zs) ∷ []) ≡ true
 unfolding clap_on_literals
 receive_taken x y z xs ys zs h k m = ap (λ b. b && true) (looks_passes (codes "receive") x y z xs ys zs h k m)
 
-send_met : (t s u : Text) → subcommand_of program (codes "send" ∷ t ∷ s ∷ u ∷ []) ≡ Some (codes "send", rows_after looks_rules [] (t ∷ s ∷ u ∷ []))
+send_met : (t s u : Text) → subcommand_of (alone (leaf_looks (codes "send"))) (codes "send" ∷ t ∷ s ∷ u ∷ []) ≡ Some (codes "send", rows_after looks_rules [] (t ∷ s ∷ u ∷ []))
 unfolding clap_on_literals
 send_met t s u = refl
 
-send_taken : (x y z : ℕ) (xs ys zs : Text) → (x == 45) ≡ false → (y == 45) ≡ false → (z == 45) ≡ false → takes program (codes "send" ∷ (x ∷ xs) ∷ (y ∷ ys) ∷ (z ∷ zs) ∷ []) ≡ true
+send_taken : (x y z : ℕ) (xs ys zs : Text) → (x == 45) ≡ false → (y == 45) ≡ false → (z == 45) ≡ false → takes (alone (leaf_looks (codes "send"))) (codes "send" ∷ (x ∷ xs) ∷ (y ∷ ys) ∷ (z ∷ zs) ∷ []) ≡ true
 unfolding clap_on_literals
 send_taken x y z xs ys zs h k m = ap (λ b. b && true) (looks_passes (codes "send") x y z xs ys zs h k m)
 
-append_met : (t s u : Text) → subcommand_of program (codes "append" ∷ t ∷ s ∷ u ∷ []) ≡ Some (codes "append", rows_after looks_rules [] (t ∷ s ∷ u ∷ []))
+append_met : (t s u : Text) → subcommand_of (alone (leaf_looks (codes "append"))) (codes "append" ∷ t ∷ s ∷ u ∷ []) ≡ Some (codes "append", rows_after looks_rules [] (t ∷ s ∷ u ∷ []))
 unfolding clap_on_literals
 append_met t s u = refl
 
-append_taken : (x y z : ℕ) (xs ys zs : Text) → (x == 45) ≡ false → (y == 45) ≡ false → (z == 45) ≡ false → takes program (codes "append" ∷ (x ∷ xs) ∷ (y ∷ ys) ∷ (z ∷ zs) ∷ []) ≡ true
+append_taken : (x y z : ℕ) (xs ys zs : Text) → (x == 45) ≡ false → (y == 45) ≡ false → (z == 45) ≡ false → takes (alone (leaf_looks (codes "append"))) (codes "append" ∷ (x ∷ xs) ∷ (y ∷ ys) ∷ (z ∷ zs) ∷ []) ≡ true
 unfolding clap_on_literals
 append_taken x y z xs ys zs h k m = ap (λ b. b && true) (looks_passes (codes "append") x y z xs ys zs h k m)
 
@@ -277,11 +295,11 @@ from_passes : (name : Text) (x y z : ℕ) (xs ys zs : Text) → (x == 45) ≡ fa
 unfolding clap_on_literals
 from_passes name x y z xs ys zs h k m = simp (h, k, m)
 
-messages_met : (t s u : Text) → subcommand_of program (codes "messages" ∷ t ∷ s ∷ u ∷ []) ≡ Some (codes "messages", rows_after from_rules [] (t ∷ s ∷ u ∷ []))
+messages_met : (t s u : Text) → subcommand_of (alone (leaf_three (codes "messages") (codes "TABLE") (codes "S") (codes "FROM"))) (codes "messages" ∷ t ∷ s ∷ u ∷ []) ≡ Some (codes "messages", rows_after from_rules [] (t ∷ s ∷ u ∷ []))
 unfolding clap_on_literals
 messages_met t s u = refl
 
-messages_taken : (x y z : ℕ) (xs ys zs : Text) → (x == 45) ≡ false → (y == 45) ≡ false → (z == 45) ≡ false → takes program (codes "messages" ∷ (x ∷ xs) ∷ (y ∷ ys) ∷ (z ∷ zs) ∷ []) ≡ true
+messages_taken : (x y z : ℕ) (xs ys zs : Text) → (x == 45) ≡ false → (y == 45) ≡ false → (z == 45) ≡ false → takes (alone (leaf_three (codes "messages") (codes "TABLE") (codes "S") (codes "FROM"))) (codes "messages" ∷ (x ∷ xs) ∷ (y ∷ ys) ∷ (z ∷ zs) ∷ []) ≡ true
 unfolding clap_on_literals
 messages_taken x y z xs ys zs h k m = ap (λ b. b && true) (from_passes (codes "messages") x y z xs ys zs h k m)
 
@@ -296,7 +314,7 @@ migrate_rows : (x y z w : ℕ) (xs ys zs ws : Text) → (x == 45) ≡ false → 
 unfolding clap_on_literals
 migrate_rows x y z w xs ys zs ws h k m n = simp (h, k, m, n)
 
-migrate_met : (t s u v : Text) → subcommand_of program (codes "migrate" ∷ t ∷ s ∷ u ∷ v ∷ []) ≡ Some (codes "migrate", rows_after migrate_rules [] (t ∷ s ∷ u ∷ v ∷ []))
+migrate_met : (t s u v : Text) → subcommand_of (alone (leaf_four (codes "migrate") (codes "TABLE") (codes "S") (codes "NEWTABLE") (codes "T"))) (codes "migrate" ∷ t ∷ s ∷ u ∷ v ∷ []) ≡ Some (codes "migrate", rows_after migrate_rules [] (t ∷ s ∷ u ∷ v ∷ []))
 unfolding clap_on_literals
 migrate_met t s u v = refl
 
@@ -304,7 +322,7 @@ migrate_met t s u v = refl
 abbrev migrate_shape : Shape
 migrate_shape = built_leaf (inherited bare.top (leaf_four (codes "migrate") (codes "TABLE") (codes "S") (codes "NEWTABLE") (codes "T")).top)
 
-migrate_entered : (t s u v : Text) → takes program (codes "migrate" ∷ t ∷ s ∷ u ∷ v ∷ []) ≡ (level_passes migrate_shape [] nothing_held (t ∷ s ∷ u ∷ v ∷ []) false && true)
+migrate_entered : (t s u v : Text) → takes (alone (leaf_four (codes "migrate") (codes "TABLE") (codes "S") (codes "NEWTABLE") (codes "T"))) (codes "migrate" ∷ t ∷ s ∷ u ∷ v ∷ []) ≡ (level_passes migrate_shape [] nothing_held (t ∷ s ∷ u ∷ v ∷ []) false && true)
 unfolding clap_on_literals
 migrate_entered t s u v = refl
 
@@ -323,7 +341,7 @@ migrate_passes x y z w xs ys zs ws h k m n =
     ap₂ (λ b (end : Walk). b && (settle_passes s.rules s.args_override_self end.held && (list_all default_passes s.rules && is_valid s (finished s.rules end.held) false))) words walk
 
 migrate_taken : (x y z w : ℕ) (xs ys zs ws : Text) → (x == 45) ≡ false → (y == 45) ≡ false → (z == 45) ≡ false → (w == 45) ≡ false
-    → takes program (codes "migrate" ∷ (x ∷ xs) ∷ (y ∷ ys) ∷ (z ∷ zs) ∷ (w ∷ ws) ∷ []) ≡ true
+    → takes (alone (leaf_four (codes "migrate") (codes "TABLE") (codes "S") (codes "NEWTABLE") (codes "T"))) (codes "migrate" ∷ (x ∷ xs) ∷ (y ∷ ys) ∷ (z ∷ zs) ∷ (w ∷ ws) ∷ []) ≡ true
 migrate_taken x y z w xs ys zs ws h k m n = migrate_entered _ _ _ _ ∙ ap (λ b. b && true) (migrate_passes x y z w xs ys zs ws h k m n)
 
 migrate_given : (t u : Text) (n m : ℕ) → IsSession t n → IsSession u m → (rows : List Row) → rows ≡ rows_after migrate_rules [] (t ∷ decimal n ∷ u ∷ decimal m ∷ [])
@@ -364,34 +382,34 @@ folder_passes name x y z w xs ys zs ws h k m n =
     let words = passes_on nothing_held 1 x xs h s after_one ∙ passes_on one 2 y ys k s after_two ∙ passes_on two 3 z zs m s after_three ∙ passes_on three 4 w ws n s [] ∙ passed s _ in
     ap₂ (λ b (end : Walk). b && (settle_passes s.rules s.args_override_self end.held && (list_all default_passes s.rules && is_valid s (finished s.rules end.held) false))) words walk
 
-drop_met : (t s u v : Text) → subcommand_of program (codes "drop" ∷ t ∷ s ∷ u ∷ v ∷ []) ≡ Some (codes "drop", rows_after folder_rules [] (t ∷ s ∷ u ∷ v ∷ []))
+drop_met : (t s u v : Text) → subcommand_of (alone (leaf_folder (codes "drop"))) (codes "drop" ∷ t ∷ s ∷ u ∷ v ∷ []) ≡ Some (codes "drop", rows_after folder_rules [] (t ∷ s ∷ u ∷ v ∷ []))
 unfolding clap_on_literals
 drop_met t s u v = refl
 
-drop_entered : (t s u v : Text) → takes program (codes "drop" ∷ t ∷ s ∷ u ∷ v ∷ []) ≡ (level_passes (folder_shape (codes "drop")) [] nothing_held (t ∷ s ∷ u ∷ v ∷ []) false && true)
+drop_entered : (t s u v : Text) → takes (alone (leaf_folder (codes "drop"))) (codes "drop" ∷ t ∷ s ∷ u ∷ v ∷ []) ≡ (level_passes (folder_shape (codes "drop")) [] nothing_held (t ∷ s ∷ u ∷ v ∷ []) false && true)
 unfolding clap_on_literals
 drop_entered t s u v = refl
 
 drop_taken : (x y z w : ℕ) (xs ys zs ws : Text) → (x == 45) ≡ false → (y == 45) ≡ false → (z == 45) ≡ false → (w == 45) ≡ false
-    → takes program (codes "drop" ∷ (x ∷ xs) ∷ (y ∷ ys) ∷ (z ∷ zs) ∷ (w ∷ ws) ∷ []) ≡ true
+    → takes (alone (leaf_folder (codes "drop"))) (codes "drop" ∷ (x ∷ xs) ∷ (y ∷ ys) ∷ (z ∷ zs) ∷ (w ∷ ws) ∷ []) ≡ true
 drop_taken x y z w xs ys zs ws h k m n = drop_entered _ _ _ _ ∙ ap (λ b. b && true) (folder_passes (codes "drop") x y z w xs ys zs ws h k m n)
 
-collect_met : (t s u v : Text) → subcommand_of program (codes "collect" ∷ t ∷ s ∷ u ∷ v ∷ []) ≡ Some (codes "collect", rows_after folder_rules [] (t ∷ s ∷ u ∷ v ∷ []))
+collect_met : (t s u v : Text) → subcommand_of (alone (leaf_folder (codes "collect"))) (codes "collect" ∷ t ∷ s ∷ u ∷ v ∷ []) ≡ Some (codes "collect", rows_after folder_rules [] (t ∷ s ∷ u ∷ v ∷ []))
 unfolding clap_on_literals
 collect_met t s u v = refl
 
-collect_entered : (t s u v : Text) → takes program (codes "collect" ∷ t ∷ s ∷ u ∷ v ∷ []) ≡ (level_passes (folder_shape (codes "collect")) [] nothing_held (t ∷ s ∷ u ∷ v ∷ []) false && true)
+collect_entered : (t s u v : Text) → takes (alone (leaf_folder (codes "collect"))) (codes "collect" ∷ t ∷ s ∷ u ∷ v ∷ []) ≡ (level_passes (folder_shape (codes "collect")) [] nothing_held (t ∷ s ∷ u ∷ v ∷ []) false && true)
 unfolding clap_on_literals
 collect_entered t s u v = refl
 
 collect_taken : (x y z w : ℕ) (xs ys zs ws : Text) → (x == 45) ≡ false → (y == 45) ≡ false → (z == 45) ≡ false → (w == 45) ≡ false
-    → takes program (codes "collect" ∷ (x ∷ xs) ∷ (y ∷ ys) ∷ (z ∷ zs) ∷ (w ∷ ws) ∷ []) ≡ true
+    → takes (alone (leaf_folder (codes "collect"))) (codes "collect" ∷ (x ∷ xs) ∷ (y ∷ ys) ∷ (z ∷ zs) ∷ (w ∷ ws) ∷ []) ≡ true
 collect_taken x y z w xs ys zs ws h k m n = collect_entered _ _ _ _ ∙ ap (λ b. b && true) (folder_passes (codes "collect") x y z w xs ys zs ws h k m n)
 
 folder_taken : (name t u : Text) (n k : ℕ) → IsCarrying t n k u
     → ((x y z w : ℕ) (xs ys zs ws : Text) → (x == 45) ≡ false → (y == 45) ≡ false → (z == 45) ≡ false → (w == 45) ≡ false
-    → takes program (name ∷ (x ∷ xs) ∷ (y ∷ ys) ∷ (z ∷ zs) ∷ (w ∷ ws) ∷ []) ≡ true)
-    → takes program (name ∷ t ∷ decimal n ∷ decimal k ∷ u ∷ []) ≡ true
+    → takes (alone (leaf_folder name)) (name ∷ (x ∷ xs) ∷ (y ∷ ys) ∷ (z ∷ zs) ∷ (w ∷ ws) ∷ []) ≡ true)
+    → takes (alone (leaf_folder name)) (name ∷ t ∷ decimal n ∷ decimal k ∷ u ∷ []) ≡ true
 folder_taken name t u n k h taken =
     let p = plain_table t h.0.0 in
     let q = plain_decimal n (omega (arith, h.0.1)) in
@@ -411,10 +429,10 @@ folder_given t u n k h rows e =
     ((refl, refl, refl), refl)
 
 -- clap takes the words of each command
-pub words_taken : (words : List Text) (c : Command) → AreWordsOf words c → takes program words ≡ true
-words_taken words Replay h = ap (takes program) h.1 ∙ replay_taken
-words_taken words (Format t n) h = ap (takes program) h.1 ∙ session_taken (codes "format") t n h.0 format_taken
-words_taken words (Show t n) h = ap (takes program) h.1 ∙ session_taken (codes "show") t n h.0 show_taken
+pub words_taken : (words : List Text) (c : Command) → AreWordsOf words c → takes (program_of c) words ≡ true
+words_taken words Replay h = ap (takes (program_of Replay)) h.1 ∙ replay_taken
+words_taken words (Format t n) h = ap (takes (program_of (Format t n))) h.1 ∙ session_taken (codes "format") t n h.0 format_taken
+words_taken words (Show t n) h = ap (takes (program_of (Show t n))) h.1 ∙ session_taken (codes "show") t n h.0 show_taken
 words_taken words (Exercise m n) h =
     let p = plain_decimal m (omega (arith, h.0.0)) in
     let q = plain_decimal n (omega (arith, h.0.2)) in
@@ -424,12 +442,12 @@ words_taken words (Race m n ts) h =
     let q = plain_decimal n (omega (arith, h.0.2)) in
     let r = plain_times ts.items h.0.3 in
     rw (h.1, p.whole, q.whole, r.whole) (race_taken p.first q.first r.first p.rest q.rest r.rest p.undashed q.undashed r.undashed)
-words_taken words (Serve t n k) h = ap (takes program) h.1 ∙ looks_taken (codes "serve") t n k h.0 serve_taken
-words_taken words (Receive t n k) h = ap (takes program) h.1 ∙ looks_taken (codes "receive") t n k h.0 receive_taken
-words_taken words (Send t n k) h = ap (takes program) h.1 ∙ looks_taken (codes "send") t n k h.0 send_taken
-words_taken words (Append t n k) h = ap (takes program) h.1 ∙ looks_taken (codes "append") t n k h.0 append_taken
-words_taken words (DropFiles t n k u) h = ap (takes program) h.1 ∙ folder_taken (codes "drop") t u n k h.0 drop_taken
-words_taken words (CollectFiles t n k u) h = ap (takes program) h.1 ∙ folder_taken (codes "collect") t u n k h.0 collect_taken
+words_taken words (Serve t n k) h = ap (takes (program_of (Serve t n k))) h.1 ∙ looks_taken (codes "serve") t n k h.0 serve_taken
+words_taken words (Receive t n k) h = ap (takes (program_of (Receive t n k))) h.1 ∙ looks_taken (codes "receive") t n k h.0 receive_taken
+words_taken words (Send t n k) h = ap (takes (program_of (Send t n k))) h.1 ∙ looks_taken (codes "send") t n k h.0 send_taken
+words_taken words (Append t n k) h = ap (takes (program_of (Append t n k))) h.1 ∙ looks_taken (codes "append") t n k h.0 append_taken
+words_taken words (DropFiles t n k u) h = ap (takes (program_of (DropFiles t n k u))) h.1 ∙ folder_taken (codes "drop") t u n k h.0 drop_taken
+words_taken words (CollectFiles t n k u) h = ap (takes (program_of (CollectFiles t n k u))) h.1 ∙ folder_taken (codes "collect") t u n k h.0 collect_taken
 words_taken words (Migrate t n u m) h =
     let p = plain_table t h.0.0.0 in
     let q = plain_decimal n (omega (arith, h.0.0.1)) in
@@ -437,17 +455,17 @@ words_taken words (Migrate t n u m) h =
     let s = plain_decimal m (omega (arith, h.0.1.1)) in
     rw (h.1, p.whole, q.whole, r.whole, s.whole)
     (migrate_taken p.first q.first r.first s.first p.rest q.rest r.rest s.rest p.undashed q.undashed r.undashed s.undashed)
-words_taken words (Wrap t n) h = ap (takes program) h.1 ∙ session_taken (codes "wrap") t n h.0 wrap_taken
-words_taken words (Unwrap t n) h = ap (takes program) h.1 ∙ session_taken (codes "unwrap") t n h.0 unwrap_taken
+words_taken words (Wrap t n) h = ap (takes (program_of (Wrap t n))) h.1 ∙ session_taken (codes "wrap") t n h.0 wrap_taken
+words_taken words (Unwrap t n) h = ap (takes (program_of (Unwrap t n))) h.1 ∙ session_taken (codes "unwrap") t n h.0 unwrap_taken
 words_taken words (Messages t n k) h =
     let p = plain_table t h.0.0.0 in
     let q = plain_decimal n (omega (arith, h.0.0.1)) in
     let r = plain_decimal k (omega (arith, h.0.1)) in
     rw (h.1, p.whole, q.whole, r.whole) (messages_taken p.first q.first r.first p.rest q.rest r.rest p.undashed q.undashed r.undashed)
-words_taken words (Status t n) h = ap (takes program) h.1 ∙ session_taken (codes "status") t n h.0 status_taken
-words_taken words Audit h = ap (takes program) h.1 ∙ audit_taken
-words_taken words Compare h = ap (takes program) h.1 ∙ compare_taken
-words_taken words Chain h = ap (takes program) h.1 ∙ chain_taken
+words_taken words (Status t n) h = ap (takes (program_of (Status t n))) h.1 ∙ session_taken (codes "status") t n h.0 status_taken
+words_taken words Audit h = ap (takes (program_of Audit)) h.1 ∙ audit_taken
+words_taken words Compare h = ap (takes (program_of Compare)) h.1 ∙ compare_taken
+words_taken words Chain h = ap (takes (program_of Chain)) h.1 ∙ chain_taken
 
 exercise_given : (m n : ℕ) → IsCommand (Exercise m n) → Gives (Exercise m n) (codes "exercise") (rows_after number_rules [] (decimal m ∷ decimal n ∷ []))
 exercise_given m n h =
@@ -464,12 +482,12 @@ race_given m n times seed count all rows e =
     let r = plain_times times all in
     rw (e, p.whole, q.whole, r.whole, race_rows p.first q.first r.first p.rest q.rest r.rest p.undashed q.undashed r.undashed) (refl, refl, refl)
 
-found_as : {words given : List Text} {name : Text} {rows : List Row} (c : Command) → words ≡ given → subcommand_of program given ≡ Some (name, rows)
-    → Gives c name rows → GivesIn c (subcommand_of program words)
-found_as c same met gives = subst (GivesIn c) (sym (ap (subcommand_of program) same ∙ met)) gives
+found_as : {words given : List Text} {name : Text} {rows : List Row} (c : Command) → words ≡ given → subcommand_of (program_of c) given ≡ Some (name, rows)
+    → Gives c name rows → GivesIn c (subcommand_of (program_of c) words)
+found_as c same met gives = subst (GivesIn c) (sym (ap (subcommand_of (program_of c)) same ∙ met)) gives
 
 -- and finds its values
-pub values_found : (words : List Text) (c : Command) → AreWordsOf words c → GivesIn c (subcommand_of program words)
+pub values_found : (words : List Text) (c : Command) → AreWordsOf words c → GivesIn c (subcommand_of (program_of c) words)
 values_found words Replay h = found_as Replay h.1 replay_met refl
 values_found words (Format t n) h = found_as (Format t n) h.1 (format_met _ _) (refl, session_given t n h.0)
 values_found words (Show t n) h = found_as (Show t n) h.1 (show_met _ _) (refl, session_given t n h.0)

@@ -1,5 +1,5 @@
 -- Which words are which command.
-use Rattle.std.specs.Prelude.{◌≡◌, ℕ, ◌≤◌, ◌<◌, ◌^◌, true, List, [], ◌∷◌, codes, decimal}
+use Rattle.std.specs.Prelude.{◌≡◌, ℕ, ◌≤◌, ◌<◌, ◌^◌, true, List, [], ◌∷◌, codes, decimal, get_or}
 use Rattle.command_line.specs.TableNames.{is_table_name}
 use Rattle.command_line.specs.TimeLists.{AreTimes, times_word}
 use Rattle.command_line.specs.declared.command.Command.{Command}
@@ -66,6 +66,10 @@ words_of (Status table session) = codes "status" ∷ table ∷ decimal session �
 words_of Audit = codes "audit" ∷ []
 words_of Compare = codes "compare" ∷ []
 words_of Chain = codes "chain" ∷ []
+
+-- the first of them
+abbrev pub name_of : Command → List ℕ
+name_of command = get_or (words_of command) 0 []
 
 -- the words are this command
 abbrev pub AreWordsOf : List (List ℕ) → Command → Type 0

@@ -1,36 +1,16 @@
-// The commands as `clap` is told of them.
-ghost use Rattle.std.specs.Prelude.{◌≡◌, IfOk, false, fold};
+// A command as `clap` is told of it. Of the commands only the one that the words name is made: that is
+// a tenth of the work of making all of them.
+ghost use Rattle.std.specs.Prelude.{◌≡◌, IfOk, IsSomeAnd, false};
 ghost use Rattle.clap.specs.Words.{app_of};
 ghost use Rattle.clap.specs.Walk.{rule_of};
 ghost use Rattle.clap.specs.declared.builder.command.Command.TheViews.{out-Command};
 ghost use Rattle.clap.specs.Simple.{App, with_rule, with_subcommand};
-ghost use Rattle.command_line.specs.Program.{value_rule, leaf_none, leaf, bare, with_command, program};
+ghost use Rattle.command_line.specs.Program.{value_rule, leaf_none, leaf, leaf_of, bare, alone};
+ghost use Rattle.command_line.specs.Commands.{name_of};
+ghost use Rattle.command_line.specs.declared.command.Command.{Command as Commands};
 
 use clap::{Arg, Command as Program};
 use std::alloc::{AllocError, Global};
-
-/// The commands by name, each with its values.
-const COMMANDS: [(&str, &[&str]); 19] = [
-    ("replay", &[]),
-    ("format", &["TABLE", "S"]),
-    ("show", &["TABLE", "S"]),
-    ("exercise", &["SEED", "COUNT"]),
-    ("race", &["SEED", "COUNT", "TIMES"]),
-    ("serve", &["TABLE", "S", "LOOKS"]),
-    ("receive", &["TABLE", "S", "LOOKS"]),
-    ("send", &["TABLE", "S", "LOOKS"]),
-    ("append", &["TABLE", "S", "LOOKS"]),
-    ("migrate", &["TABLE", "S", "NEWTABLE", "T"]),
-    ("drop", &["TABLE", "S", "LOOKS", "FOLDER"]),
-    ("collect", &["TABLE", "S", "LOOKS", "FOLDER"]),
-    ("wrap", &["TABLE", "S"]),
-    ("unwrap", &["TABLE", "S"]),
-    ("messages", &["TABLE", "S", "FROM"]),
-    ("status", &["TABLE", "S"]),
-    ("audit", &[]),
-    ("compare", &[]),
-    ("chain", &[]),
-];
 
 /// A value that has to be there.
 fn value<'a>(alloc: Global, id: &'a str) -> Arg<'a>
@@ -107,25 +87,30 @@ fn with<'a>(
     }
 }
 
-/// The program with each of these commands, which are names with their values.
-fn with_commands<'a>(
-    alloc: Global,
-    above: Program<'a>,
-    commands: &[(&'a str, &[&'a str])],
-) -> Result<Program<'a>, AllocError>
-    ensures { (known : App) → app_of above.entry ≡ known
-        → IfOk result (λ all. app_of all ≡ fold with_command known commands.now) }
+/// The values of the command of this name, in their order.
+pub(crate) fn values_of(name: &str) -> Option<&'static [&'static str]>
+    ensures { (c : Commands) → name.now ≡ name_of c → IsSomeAnd result (λ ids. leaf name.now ids.now ≡ leaf_of c) }
 {
-    let mut all = above;
-    for &(name, ids) in commands {
-        all = with(all, leaf(alloc, name, ids))?;
+    match name {
+        "replay" | "audit" | "compare" | "chain" => Some(&[]),
+        "format" | "show" | "wrap" | "unwrap" | "status" => Some(&["TABLE", "S"]),
+        "serve" | "receive" | "send" | "append" => Some(&["TABLE", "S", "LOOKS"]),
+        "drop" | "collect" => Some(&["TABLE", "S", "LOOKS", "FOLDER"]),
+        "exercise" => Some(&["SEED", "COUNT"]),
+        "race" => Some(&["SEED", "COUNT", "TIMES"]),
+        "migrate" => Some(&["TABLE", "S", "NEWTABLE", "T"]),
+        "messages" => Some(&["TABLE", "S", "FROM"]),
+        _ => None,
     }
-    Ok(all)
 }
 
-/// The commands as clap is told of them. An error is want of memory.
-pub(crate) fn program<'a>(alloc: Global) -> Result<Program<'a>, AllocError>
-    ensures { IfOk result (λ c. app_of c ≡ program) }
+/// The program with the command of this name and these values alone. An error is want of memory.
+pub(crate) fn program<'a>(
+    alloc: Global,
+    name: &'a str,
+    ids: &[&'a str],
+) -> Result<Program<'a>, AllocError>
+    ensures { IfOk result (λ c. app_of c ≡ alone (leaf name.entry.now ids.now)) }
 {
-    with_commands(alloc, bare(alloc), &COMMANDS)
+    with(bare(alloc), leaf(alloc, name, ids))
 }

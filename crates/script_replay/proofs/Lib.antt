@@ -10,6 +10,7 @@ pub mod Finished
 pub mod FoundOnce
 pub mod Fresh
 pub mod Gathered
+pub mod Given
 pub mod Going
 pub mod Headline
 pub mod Kept

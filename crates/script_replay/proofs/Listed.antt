@@ -47,6 +47,13 @@ module _ {D : Type 0} {g : Ghosts D} where
   is_at_not number place xs ys same high =
       le-ltb place (length xs) high ∙ sym (ap (λ (o : Option (Session D g)). is_of_number number o) (ap (λ (l : List (Session D g)). slice_get l place) (sym same) ∙ slice_get_past xs place high))
 
+  -- a place where one of some number stands
+  pub within_so : (number i : ℕ) (xs : List (Session D g)) → is_of_number number (slice_get xs i) ≡ true → i < length xs
+  within_so number zero [] is = cc
+  within_so number (suc i) [] is = cc
+  within_so number zero (y ∷ ys) is = omega arith
+  within_so number (suc i) (y ∷ ys) is = let low = within_so number i ys is in omega (arith, low)
+
   pub set_here : (xs : List (Session D g)) (i : ℕ) (x : Session D g) → i < length xs → slice_get (set xs i x) i ≡ Some x
   set_here [] i x low = absurd (omega (arith, low))
   set_here (y ∷ ys) zero x low = refl

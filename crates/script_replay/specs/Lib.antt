@@ -1,3 +1,4 @@
+pub mod Applied
 pub mod Ends
 pub mod Failing
 pub mod Lending

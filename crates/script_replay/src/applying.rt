@@ -8,16 +8,16 @@ ghost use Rattle.pump_frame.specs.Rows.{IsLawfulRow};
 ghost use Rattle.script_reader.specs.Grammar.{IsCount};
 ghost use Rattle.script_reader.specs.Lawful.{IsLawfulLine};
 ghost use Rattle.script_reader.specs.Heads.{line_with, CanHoldLine};
-ghost use Rattle.script_reader.specs.Scripts.{RunningAlone, Begun, Alone};
-ghost use Rattle.script_reader.specs.Sessions.{Sessions as Script, session_in, begins_session as begins};
+ghost use Rattle.script_reader.specs.Sessions.{Sessions as Script, no_sessions, session_in, begins_session as begins};
 ghost use Rattle.script_reader.specs.Sessions.{stands_first as is_first, is_in_turn};
-ghost use Rattle.script_replay.specs.Sessions.{id_of, IsUp, StandsFor, LendsNew, GoesOnWith, FailedWith, HasFailed};
+ghost use Rattle.script_replay.specs.Sessions.{id_of, IsUp, StandsFor, LendsNew};
 ghost use Rattle.script_replay.specs.Sessions.{found_at, IsPlaced, AreInOrder, AllStandFor, AllLend};
-ghost use Rattle.script_replay.specs.Outputs.{held_of};
 ghost use Rattle.script_replay.specs.Failing.{FailsAt};
 ghost use Rattle.script_replay.specs.Shelves.{Places, AllAreBack, LeavesOtherSessions};
-ghost use Rattle.script_replay.specs.Runners.{AllAreUp, outcome_of, outcome_at, Begins, GoesSo, TurnDoes, BeginDoes};
-ghost use Rattle.script_replay.specs.Runners.{TurnIsQuiet, AllHandOver, IsDeviceOutcomeOf, DeviceFails, AllFresh};
+ghost use Rattle.script_replay.specs.Outputs.{held_of};
+ghost use Rattle.script_replay.specs.Applied.{LineGoes};
+ghost use Rattle.script_replay.specs.Runners.{AllAreUp, outcome_of, outcome_at, Begins, BeginDoes};
+ghost use Rattle.script_replay.specs.Runners.{AllHandOver, IsDeviceOutcomeOf, AllFresh};
 ghost use Rattle.script_replay.specs.Runners.{StartsFresh, FreshAfter, StopsByLine, IsOfBeginning};
 ghost use Rattle.script_replay.specs.Told.{IsMadeBy, AllAreMadeBy, GoesAsTold};
 
@@ -31,7 +31,7 @@ use disk_model::{Disk, Shelf};
 use pump_frame::SessionRow;
 use pump_link::Sink;
 use script_reader::{Body, EventHead, Line, LineHead, begins_session, session_of, stands_first};
-use std::alloc::Global;
+use std::alloc::{AllocError, Global};
 use two_worlds::Pump;
 
 /// Opens the session of a row over its three disks. They come off the shelf, and are back on it where
@@ -143,42 +143,6 @@ fn begin<S: Shelf>(
     }
 }
 
-/// A line of the session that has begun, which needs not stand first. The list is for what it prints.
-fn apply_and_print<D: Disk, O: Sink>(
-    session: &mut Session<D>,
-    line: &LineHead,
-    body: &Body,
-    events: &mut ArrayVec<EventHead, 4>,
-    output: &mut Output,
-    out: &mut O,
-) -> Outcome
-    requires lawful { IsLawfulLine (line_with body.now line.now) }
-    requires room { CanHoldLine line.now body.now }
-    requires some { line_with body.now line.now ≢ Line.Skip }
-    requires later { is_first (line_with body.now line.now) ≡ false }
-    requires up { IsUp session.old }
-    ensures does { D.told.tells → (running : Begun) → StandsFor D.told session.old running
-        → GoesSo D.told running (line_with body.now line.now) session.new (held_of output.old) (held_of output.new)
-        (O.written out.old) (O.written out.new) result }
-    ensures alone { (s : RunningAlone) → StandsFor D.told session.old (Alone s)
-        → GoesSo D.told (Alone s) (line_with body.now line.now) session.new (held_of output.old) (held_of output.new)
-        (O.written out.old) (O.written out.new) result }
-    ensures up { result ≡ Outcome.Applied → IsUp session.new }
-    ensures with { GoesOnWith D.told session.old session.new }
-    ensures line { StopsByLine result }
-    ensures memory { result ≡ Outcome.Memory → ⊥ }
-    ensures device { (number : ℕ) (role : DiskRole) → IsDeviceOutcomeOf number role result
-        → (id_of session.new ≡ number) × FailedWith D.told session.old session.new role }
-    ensures later { O.faults out.old ≤ O.faults out.new }
-    ensures cause { result ≡ Outcome.Unwritten → Rose (O.faults out.old) (O.faults out.new) }
-{
-    let stop = session.apply(line, body, events);
-    match output.print_all(events.as_slice(), out) {
-        Ok(()) => outcome_of(session.id(), &stop),
-        Err(_) => Outcome::Unwritten,
-    }
-}
-
 /// A line that may come now, of the session that is to stand at this place but does not yet.
 fn begin_session<S: Shelf>(
     alloc: Global,
@@ -279,160 +243,83 @@ fn coarsen_at<D: Disk>(
     Outcome::Applied
 }
 
-/// A line that may come now, of the session at this place. The list is for what it prints.
-fn apply_begun<D: Disk, O: Sink>(
-    sessions: &mut Sessions<D>,
-    place: usize,
+/// What a replay keeps while its script runs.
+pub struct Replaying<D: Disk> {
+    pub alloc: Global,
+    pub sessions: Sessions<D>,
+    /// What the last line printed.
+    pub events: ArrayVec<EventHead, 4>,
+    pub output: Output,
+}
+
+impl<D: Disk> Replaying<D> {
+    /// No line has come yet.
+    pub fn new(alloc: Global) -> Result<Replaying<D>, AllocError>
+        ensures none { IfOk result (λ replaying. replaying.sessions.begun.items ≡ []) }
+        ensures stands { IfOk result (λ replaying. AllStandFor D.told replaying.sessions no_sessions) }
+        ensures order { IfOk result (λ replaying. AreInOrder replaying.sessions) }
+        ensures unheld { IfOk result (λ replaying. held_of replaying.output ≡ []) }
+    {
+        Ok(Replaying {
+            alloc,
+            sessions: Sessions::new(alloc)?,
+            events: ArrayVec::new(),
+            output: Output::new(),
+        })
+    }
+}
+
+/// A line of the script.
+pub fn apply<S: Shelf, O: Sink>(
+    replaying: &mut Replaying<S::Disk>,
+    shelf: &mut S,
     line: &LineHead,
     body: &Body,
-    events: &mut ArrayVec<EventHead, 4>,
-    output: &mut Output,
     out: &mut O,
 ) -> Outcome
     requires lawful { IsLawfulLine (line_with body.now line.now) }
     requires room { CanHoldLine line.now body.now }
-    requires some { line_with body.now line.now ≢ Line.Skip }
-    requires order { AreInOrder sessions.old }
-    requires up { AllAreUp sessions.old.begun.items }
-    requires place { place < vec_len sessions.old.begun }
-    requires placed { (number : ℕ) → session_in (line_with body.now line.now) ≡ Some number
-        → IsPlaced number place sessions.old.begun.items true }
-    requires named { (number : ℕ) × (session_in (line_with body.now line.now) ≡ Some number) }
-    ensures order { AreInOrder sessions.new }
-    ensures does { D.told.tells → (before now : Places) → AllLend D.told before now sessions.old.begun.items
-        → (t : Script) → AllStandFor D.told sessions.old t → is_in_turn t (line_with body.now line.now) ≡ true
-        → TurnDoes D.told before now t (line_with body.now line.now) sessions.new (held_of output.old)
-        (held_of output.new) (O.written out.old) (O.written out.new) result }
-    ensures fresh { (before now : Places) → AllFresh D.told before now sessions.old.begun.items
-        → FreshAfter D.told before now sessions.new result }
-    ensures lends { (before now : Places) → AllLend D.told before now sessions.old.begun.items
-        → AllLend D.told before now sessions.new.begun.items }
-    ensures up { result ≡ Outcome.Applied → AllAreUp sessions.new.begun.items }
-    ensures quiet { TurnIsQuiet sessions.old sessions.new (held_of output.old) (held_of output.new) (O.written out.old)
-        (O.written out.new) result }
-    ensures line { StopsByLine result }
-    ensures device { (number : ℕ) (role : DiskRole) → IsDeviceOutcomeOf number role result → (before now : Places)
-        → AllLend D.told before now sessions.old.begun.items
-        → HasFailed D.told now role (found_at number sessions.new.begun.items) }
+    requires order { AreInOrder replaying.old.sessions }
+    requires up { AllAreUp replaying.old.sessions.begun.items }
+    ensures goes { LineGoes S.told S.Disk.told shelf.old shelf.new replaying.old replaying.new (O.written out.old)
+        (O.written out.new) (line_with body.now line.now) result }
+    ensures disks_later { S.told.disk_faults shelf.old ≤ S.told.disk_faults shelf.new }
     ensures later { O.faults out.old ≤ O.faults out.new }
     ensures cause { result ≡ Outcome.Unwritten → Rose (O.faults out.old) (O.faults out.new) }
-    ensures told { (is_first (line_with body.now line.now) ≡ true → sessions.old.is_under_way ≡ false)
-        → (lines : List Line) → AllAreMadeBy D.told sessions.old lines
-        → GoesAsTold D.told sessions.new lines (line_with body.now line.now) result }
 {
-    if stands_first(line) {
-        return coarsen_at(sessions, place, line, body);
+    let number = match session_of(line) {
+        None => return Outcome::Applied,
+        Some(number) => number,
+    };
+    if !replaying.sessions.is_in_turn(line) {
+        return Outcome::Refused;
     }
-    match apply_and_print(&mut sessions.begun[place], line, body, events, output, out) {
+    let place = replaying.sessions.place_of(number);
+    if !replaying.sessions.is_at(place, number) {
+        return begin_session(
+            replaying.alloc,
+            shelf,
+            &mut replaying.sessions,
+            place,
+            line,
+            body,
+        );
+    }
+    if stands_first(line) {
+        return coarsen_at(&mut replaying.sessions, place, line, body);
+    }
+    let session = &mut replaying.sessions.begun[place];
+    let stop = session.apply(line, body, &mut replaying.events);
+    let outcome = outcome_of(session.id(), &stop);
+    match replaying.output.print_all(replaying.events.as_slice(), out) {
+        Ok(()) => {}
+        Err(_) => return Outcome::Unwritten,
+    }
+    match outcome {
         Outcome::Applied => {
-            sessions.note_applied(line, place);
+            replaying.sessions.note_applied(line, place);
             Outcome::Applied
         }
         outcome => outcome,
-    }
-}
-
-/// A line of the session with this number. The list is for what it prints.
-fn apply_to_session<S: Shelf, O: Sink>(
-    alloc: Global,
-    shelf: &mut S,
-    sessions: &mut Sessions<S::Disk>,
-    number: u32,
-    line: &LineHead,
-    body: &Body,
-    events: &mut ArrayVec<EventHead, 4>,
-    output: &mut Output,
-    out: &mut O,
-) -> Outcome
-    requires lawful { IsLawfulLine (line_with body.now line.now) }
-    requires room { CanHoldLine line.now body.now }
-    requires order { AreInOrder sessions.old }
-    requires up { AllAreUp sessions.old.begun.items }
-    requires named { session_in (line_with body.now line.now) ≡ Some number }
-    ensures order { AreInOrder sessions.new }
-    ensures does { S.told.tells → S.Disk.told.tells → (before : Places)
-        → AllLend S.Disk.told before (S.told.disk shelf.old) sessions.old.begun.items
-        → (t : Script) → AllStandFor S.Disk.told sessions.old t
-        → TurnDoes S.Disk.told before (S.told.disk shelf.new) t (line_with body.now line.now) sessions.new
-        (held_of output.old) (held_of output.new) (O.written out.old) (O.written out.new) result }
-    ensures fresh { S.told.tells → S.Disk.told.tells → (before : Places)
-        → AllFresh S.Disk.told before (S.told.disk shelf.old) sessions.old.begun.items
-        → FreshAfter S.Disk.told before (S.told.disk shelf.new) sessions.new result }
-    ensures hands { (before : Places) → AllLend S.Disk.told before (S.told.disk shelf.old) sessions.old.begun.items
-        → AllHandOver S.told.tells S.Disk.told before (S.told.disk shelf.new) sessions.new.begun.items }
-    ensures goes { result ≡ Outcome.Applied → (before : Places)
-        → AllLend S.Disk.told before (S.told.disk shelf.old) sessions.old.begun.items
-        → AllLend S.Disk.told before (S.told.disk shelf.new) sessions.new.begun.items
-        × AllAreUp sessions.new.begun.items }
-    ensures quiet { TurnIsQuiet sessions.old sessions.new (held_of output.old) (held_of output.new) (O.written out.old)
-        (O.written out.new) result }
-    ensures line { StopsByLine result }
-    ensures device { (number : ℕ) (role : DiskRole) → IsDeviceOutcomeOf number role result → (before : Places)
-        → AllLend S.Disk.told before (S.told.disk shelf.old) sessions.old.begun.items
-        → DeviceFails S.told S.Disk.told before shelf.old shelf.new sessions.new.begun.items number role }
-    ensures disks_later { S.told.disk_faults shelf.old ≤ S.told.disk_faults shelf.new }
-    ensures later { O.faults out.old ≤ O.faults out.new }
-    ensures cause { result ≡ Outcome.Unwritten → Rose (O.faults out.old) (O.faults out.new) }
-    ensures told { (lines : List Line) → AllAreMadeBy S.Disk.told sessions.old lines
-        → GoesAsTold S.Disk.told sessions.new lines (line_with body.now line.now) result }
-{
-    if !sessions.is_in_turn(line) {
-        return Outcome::Refused;
-    }
-    let place = sessions.place_of(number);
-    if sessions.is_at(place, number) {
-        apply_begun(sessions, place, line, body, events, output, out)
-    } else {
-        begin_session(alloc, shelf, sessions, place, line, body)
-    }
-}
-
-/// A line of the script. The list is for what it prints.
-pub fn apply_line<S: Shelf, O: Sink>(
-    alloc: Global,
-    shelf: &mut S,
-    sessions: &mut Sessions<S::Disk>,
-    line: &LineHead,
-    body: &Body,
-    events: &mut ArrayVec<EventHead, 4>,
-    output: &mut Output,
-    out: &mut O,
-) -> Outcome
-    requires lawful { IsLawfulLine (line_with body.now line.now) }
-    requires room { CanHoldLine line.now body.now }
-    requires order { AreInOrder sessions.old }
-    requires up { AllAreUp sessions.old.begun.items }
-    ensures order { AreInOrder sessions.new }
-    ensures does { S.told.tells → S.Disk.told.tells → (before : Places)
-        → AllLend S.Disk.told before (S.told.disk shelf.old) sessions.old.begun.items
-        → (t : Script) → AllStandFor S.Disk.told sessions.old t
-        → TurnDoes S.Disk.told before (S.told.disk shelf.new) t (line_with body.now line.now) sessions.new
-        (held_of output.old) (held_of output.new) (O.written out.old) (O.written out.new) result }
-    ensures fresh { S.told.tells → S.Disk.told.tells → (before : Places)
-        → AllFresh S.Disk.told before (S.told.disk shelf.old) sessions.old.begun.items
-        → FreshAfter S.Disk.told before (S.told.disk shelf.new) sessions.new result }
-    ensures hands { (before : Places) → AllLend S.Disk.told before (S.told.disk shelf.old) sessions.old.begun.items
-        → AllHandOver S.told.tells S.Disk.told before (S.told.disk shelf.new) sessions.new.begun.items }
-    ensures goes { result ≡ Outcome.Applied → (before : Places)
-        → AllLend S.Disk.told before (S.told.disk shelf.old) sessions.old.begun.items
-        → AllLend S.Disk.told before (S.told.disk shelf.new) sessions.new.begun.items
-        × AllAreUp sessions.new.begun.items }
-    ensures quiet { TurnIsQuiet sessions.old sessions.new (held_of output.old) (held_of output.new) (O.written out.old)
-        (O.written out.new) result }
-    ensures line { StopsByLine result }
-    ensures device { (number : ℕ) (role : DiskRole) → IsDeviceOutcomeOf number role result → (before : Places)
-        → AllLend S.Disk.told before (S.told.disk shelf.old) sessions.old.begun.items
-        → DeviceFails S.told S.Disk.told before shelf.old shelf.new sessions.new.begun.items number role }
-    ensures disks_later { S.told.disk_faults shelf.old ≤ S.told.disk_faults shelf.new }
-    ensures later { O.faults out.old ≤ O.faults out.new }
-    ensures cause { result ≡ Outcome.Unwritten → Rose (O.faults out.old) (O.faults out.new) }
-    ensures told { (lines : List Line) → AllAreMadeBy S.Disk.told sessions.old lines
-        → GoesAsTold S.Disk.told sessions.new lines (line_with body.now line.now) result }
-{
-    match session_of(line) {
-        None => Outcome::Applied,
-        Some(number) => apply_to_session(
-            alloc, shelf, sessions, number, line, body, events, output, out,
-        ),
     }
 }

@@ -19,7 +19,7 @@ ghost use Rattle.script_replay.specs.Told.{TellsFault, IfAlone};
 ghost use Rattle.script_replay.specs.Runners.{AllHandOver, AreOut, AllAreOut, LeftAs, AllLeftAs, IsAloneOr, lent};
 ghost use Rattle.script_replay.specs.Runners.{Closes, EndsAs, IsDeviceFaultOf, DeviceFails};
 
-use crate::applying::apply_line;
+use crate::applying::{Replaying, apply};
 use crate::disks::put_disks_back;
 use crate::ended::Ended;
 use crate::outcome::Outcome;
@@ -87,27 +87,27 @@ fn refuse<O: Sink>(number: u32, output: &mut Output, out: &mut O) -> Ended
 
 /// Applies the lines of the script, and writes what they print. The sessions are left with their disks.
 fn run<S: Shelf, I: Source, O: Sink>(
-    alloc: Global,
     shelf: &mut S,
-    sessions: &mut Sessions<S::Disk>,
+    replaying: &mut Replaying<S::Disk>,
     script: &mut I,
     out: &mut O,
 ) -> Ended
-    requires none { sessions.old.begun.items ≡ [] }
-    requires stands { AllStandFor S.Disk.told sessions.old no_sessions }
-    requires order { AreInOrder sessions.old }
+    requires none { replaying.old.sessions.begun.items ≡ [] }
+    requires stands { AllStandFor S.Disk.told replaying.old.sessions no_sessions }
+    requires order { AreInOrder replaying.old.sessions }
+    requires unheld { held_of replaying.old.output ≡ [] }
     ensures ends { S.told.tells → S.Disk.told.tells
-        → EndsAs (lent S.Disk.told (S.told.disk shelf.old) (S.told.disk shelf.new) sessions.new.begun.items)
+        → EndsAs (lent S.Disk.told (S.told.disk shelf.old) (S.told.disk shelf.new) replaying.new.sessions.begun.items)
         (I.left script.old) (I.left script.new) (O.written out.old) (O.written out.new) (I.faults script.old)
         (I.faults script.new) result }
     ensures hands { AllHandOver S.told.tells S.Disk.told (S.told.disk shelf.old) (S.told.disk shelf.new)
-        sessions.new.begun.items }
-    ensures rise { Rise sessions.new.begun.items }
+        replaying.new.sessions.begun.items }
+    ensures rise { Rise replaying.new.sessions.begun.items }
     ensures device { (number : ℕ) (role : DiskRole) → IsDeviceFaultOf number role result
-        → DeviceFails S.told S.Disk.told (S.told.disk shelf.old) shelf.old shelf.new sessions.new.begun.items number
+        → DeviceFails S.told S.Disk.told (S.told.disk shelf.old) shelf.old shelf.new replaying.new.sessions.begun.items number
         role }
     ensures told { (number : ℕ) (role : DiskRole) → IsDeviceFaultOf number role result
-        → IfAlone (found_at number sessions.new.begun.items) (TellsFault (I.left script.old) (I.left script.new)) }
+        → IfAlone (found_at number replaying.new.sessions.begun.items) (TellsFault (I.left script.old) (I.left script.new)) }
     ensures memory { result ≡ Ended.Memory → Appends (O.written out.old) (O.written out.new) [] }
     ensures later { S.told.disk_faults shelf.old ≤ S.told.disk_faults shelf.new }
     ensures write { result ≡ Ended.Write → Rose (O.faults out.old) (O.faults out.new) }
@@ -116,33 +116,22 @@ fn run<S: Shelf, I: Source, O: Sink>(
 {
     let mut lines = Lines::new();
     let mut body = Body::new();
-    let mut events = ArrayVec::new();
-    let mut output = Output::new();
     'turns: loop {
-        match output.show(&lines, out) {
+        match replaying.output.show(&lines, out) {
             Ok(()) => {}
             Err(_) => return Ended::Write,
         }
         match lines.next_head(script, &mut body) {
-            LinedHead::Line(line) => match apply_line(
-                alloc,
-                shelf,
-                sessions,
-                &line,
-                &body,
-                &mut events,
-                &mut output,
-                out,
-            ) {
+            LinedHead::Line(line) => match apply(replaying, shelf, &line, &body, out) {
                 Outcome::Applied => {}
-                Outcome::Refused => return refuse(lines.number(), &mut output, out),
-                Outcome::Stopped(fault) => return stop(fault, &mut output, out),
+                Outcome::Refused => return refuse(lines.number(), &mut replaying.output, out),
+                Outcome::Stopped(fault) => return stop(fault, &mut replaying.output, out),
                 Outcome::Memory => return Ended::Memory,
                 Outcome::Unwritten => return Ended::Write,
             },
-            LinedHead::Bad => return refuse(lines.number(), &mut output, out),
-            LinedHead::Failed => return stop(Fault::Read, &mut output, out),
-            LinedHead::End => return finish(sessions, &mut output, out),
+            LinedHead::Bad => return refuse(lines.number(), &mut replaying.output, out),
+            LinedHead::Failed => return stop(Fault::Read, &mut replaying.output, out),
+            LinedHead::End => return finish(&replaying.sessions, &mut replaying.output, out),
         }
     }
 }
@@ -225,11 +214,17 @@ pub fn replay<S: Shelf, I: Source, O: Sink>(
     ensures write { result ≡ 4 → Rose (O.faults out.old) (O.faults out.new) }
     ensures status { (result ≤ 8) ⊎ (result ≡ 10) }
 {
-    let mut sessions = match Sessions::new(alloc) {
-        Ok(sessions) => sessions,
+    let mut replaying = match Replaying::new(alloc) {
+        Ok(replaying) => replaying,
         Err(_) => return 1,
     };
-    let ended = run(alloc, shelf, &mut sessions, script, out);
+    let ended = run(shelf, &mut replaying, script, out);
+    let Replaying {
+        alloc: _,
+        sessions,
+        events: _,
+        output: _,
+    } = replaying;
     leave_all(sessions, shelf);
     ended.status()
 }

@@ -8,14 +8,14 @@ use Rattle.script_replay.proofs.Told.{alone_so}
 use Rattle.script_replay.proofs.replaying.replay.Goals as goal
 
 pub leave_all-requires-clause-out : goal.leave_all-requires-clause-out
-leave_all-requires-clause-out g c = all_are_out g.S.Disk.Disk.told g.S.Shelf.told.tells (g.S.Shelf.told.disk c.args.shelf.now) (g.S.Shelf.told.disk c.run-ended.new.shelf) c.run-ended.new.sessions.begun.items c.run-ended.ensures.hands
+leave_all-requires-clause-out g c = all_are_out g.S.Disk.Disk.told g.S.Shelf.told.tells (g.S.Shelf.told.disk c.args.shelf.now) (g.S.Shelf.told.disk c.run-ended.new.shelf) c.run-ended.new.replaying.sessions.begun.items c.run-ended.ensures.hands
 
 pub returns-clause-ends : goal.returns-clause-ends
 returns-clause-ends g c = λ told tells.
     let before = g.S.Shelf.told.disk c.args.shelf.now in
     let mid = g.S.Shelf.told.disk c.run-ended.new.shelf in
     let after = g.S.Shelf.told.disk c.leave_all.new.shelf in
-    let begun = c.run-ended.new.sessions.begun.items in
+    let begun = c.run-ended.new.replaying.sessions.begun.items in
     let ends = c.run-ended.ensures.ends told tells in
     subst (λ (n : ℕ). EndsReplay n before after (FailsAt g.S.Shelf.told g.S.Disk.Disk.told c.args.shelf.now c.leave_all.new.shelf) (g.I.Source.left c.args.script.now) (g.I.Source.left c.run-ended.new.script)
     (g.O.Sink.written c.args.out.now) (g.O.Sink.written c.run-ended.new.out) (g.I.Source.faults c.args.script.now) (g.I.Source.faults c.run-ended.new.script)) (sym c.status.ensures.is)
@@ -28,7 +28,7 @@ returns-clause-ends g c = λ told tells.
     c.run-ended.result is ends))
 
 pub returns-clause-back : goal.returns-clause-back
-returns-clause-back g c = λ told. all_are_back g.S.Disk.Disk.told g.S.Shelf.told.tells (g.S.Shelf.told.disk c.args.shelf.now) (g.S.Shelf.told.disk c.run-ended.new.shelf) (g.S.Shelf.told.disk c.leave_all.new.shelf) c.run-ended.new.sessions.begun.items told c.run-ended.ensures.hands c.leave_all.ensures.left
+returns-clause-back g c = λ told. all_are_back g.S.Disk.Disk.told g.S.Shelf.told.tells (g.S.Shelf.told.disk c.args.shelf.now) (g.S.Shelf.told.disk c.run-ended.new.shelf) (g.S.Shelf.told.disk c.leave_all.new.shelf) c.run-ended.new.replaying.sessions.begun.items told c.run-ended.ensures.hands c.leave_all.ensures.left
 
 pub returns-clause-memory : goal.returns-clause-memory
 returns-clause-memory g c = λ is. c.run-ended.ensures.memory (of_status 1 c.run-ended.result (sym c.status.ensures.is ∙ is))
@@ -46,7 +46,7 @@ pub returns-clause-device : goal.returns-clause-device
 returns-clause-device g c = λ is.
     let (number, role, of) = of_status 7 c.run-ended.result (sym c.status.ensures.is ∙ is) in
     let before = g.S.Shelf.told.disk c.args.shelf.now in
-    let begun = c.run-ended.new.sessions.begun.items in
+    let begun = c.run-ended.new.replaying.sessions.begun.items in
     let failed : IsDeviceFaultOf number role c.run-ended.result = subst (IsDeviceFaultOf number role) (sym of) (refl, refl) in
     elim (named_so g.S.Shelf.told g.S.Disk.Disk.told before c.args.shelf.now c.run-ended.new.shelf c.leave_all.new.shelf begun number role refl (c.run-ended.ensures.device number role failed) c.run-ended.ensures.later c.leave_all.ensures.later c.leave_all.ensures.left (c.leave_all.ensures.failed number role)) [
       | inl fails ↦ inl fails.0

@@ -19,4 +19,4 @@ pub use command::{Command, WordsFault};
 pub use find::command_of;
 pub use laws::words_are_one_command;
 pub use table_name::TableName;
-pub use usage::USAGE;
+pub use usage::{COMMAND_LINES, Usage, Wanted};

@@ -4,7 +4,7 @@ use Rattle.pump_frame.specs.Counts.{Rose}
 use Rattle.peers.specs.declared.append.AppendEnd.{AppendEnd}
 use Rattle.peers.specs.declared.append.AppendEnd.TheVariants as appender
 use Rattle.dispatch.specs.Appendings.{end_of_appender, TellsEnd}
-use Rattle.dispatch.specs.Causes.{Causes, IsCaused}
+use Rattle.command_ends.specs.Causes.{Causes, IsCaused}
 use Rattle.command_ends.specs.declared.command_end.CommandEnd.{CommandEnd}
 use Rattle.command_ends.specs.declared.command_end.CommandEnd.TheVariants.{Unread, Unwritten}
 

@@ -10,7 +10,7 @@ use Rattle.command_ends.specs.CommandEnds.{end_status, end_line, Closes, NamesFa
 use Rattle.command_ends.specs.Tables.{IsTableEnd}
 use Rattle.command_ends.specs.declared.command_end.CommandEnd.{CommandEnd}
 use Rattle.command_ends.specs.declared.command_end.CommandEnd.TheVariants.{Memory, Unread, NoRow, Failed, Unconnected, Unwritten}
-use Rattle.dispatch.specs.Causes.{Causes, IsCaused, HasStatusCause}
+use Rattle.command_ends.specs.Causes.{Causes, IsCaused, HasStatusCause}
 
 -- ---- an end ----
 
@@ -80,7 +80,7 @@ module _ (old mid new : Option (List ℕ)) (first before now session status : �
   module _ (c : Causes) (is_caused : IsCaused c end) (Read Link : Type 0) (Device : Role → Type 0) where
     -- the causes of the end are those of the status, where what was written and how often the sink failed is told over the whole call
     pub status_caused : (c.memory → Appends mid new [] → Appends old new []) → (c.read → Read) → (c.unwritten → Rose first before) → ((role : Role) → c.device role → Device role) → (c.link → Link)
-        → HasStatusCause (record { memory = Appends old new []; read = Read; unwritten = Rose first now; device = Device; link = Link }) status
+        → HasStatusCause (record { memory = Appends old new []; read = Read; unwritten = Rose first now; device = Device; link = Link }) ⊥ status
     status_caused memory read unwritten device link = record {
       memory = λ is.
           let same = memory_alone end (its_own 1 (λ e. omega (arith, e)) is) in
@@ -111,7 +111,7 @@ table_named fails session end only = absurd only
 
 pub table_status : (old new : Option (List ℕ)) (before now session status : ℕ) (end : CommandEnd) → before ≤ now → Closes old new session end status → (status ≡ end_status end) ⊎ ((status ≡ 4) × Rose before now)
     → (Read Link : Type 0) (Device : Role → Type 0) → IsTableEnd end → (◌≡◌ {A = Result SessionRow CommandEnd} (Err end) (Err Unread) → Read)
-    → HasStatusCause (record { memory = Appends old new []; read = Read; unwritten = Rose before now; device = Device; link = Link }) status
+    → HasStatusCause (record { memory = Appends old new []; read = Read; unwritten = Rose before now; device = Device; link = Link }) ⊥ status
 table_status old new before now session status end high closes cause Read Link Device only read =
     status_caused old old new before before now session status end (omega arith) high closes cause (record { memory = Unit; read = Read; unwritten = ⊥; device = λ role. ⊥; link = ⊥ })
     (table_caused Read end only (λ e. read (ap Err e))) Read Link Device (λ one appends. appends) (λ r. r) (λ none. absurd none) (λ role none. absurd none) (λ none. absurd none)

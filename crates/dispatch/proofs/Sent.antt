@@ -14,7 +14,7 @@ use Rattle.peers.specs.declared.receive.ReceiveEnd.{ReceiveEnd}
 use Rattle.peers.specs.declared.receive.ReceiveEnd.TheVariants as receiver
 use Rattle.peers.specs.declared.send.SendEnd.{SendEnd}
 use Rattle.peers.specs.declared.send.SendEnd.TheVariants as sender
-use Rattle.dispatch.specs.Causes.{Causes, IsCaused}
+use Rattle.command_ends.specs.Causes.{Causes, IsCaused}
 use Rattle.dispatch.specs.Receptions.{end_of_receiver}
 use Rattle.dispatch.specs.Sendings.{end_of_sender}
 use Rattle.commands.specs.Showing.{end_at}

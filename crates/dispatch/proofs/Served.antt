@@ -26,7 +26,7 @@ use Rattle.serving.specs.declared.session.SessionEnd.{SessionEnd}
 use Rattle.serving.specs.declared.session.SessionEnd.TheVariants as session_ends
 use Rattle.command_ends.specs.CommandEnds.{NamesFailed}
 use Rattle.commands.specs.LentDisks.{LeavesBut}
-use Rattle.dispatch.specs.Causes.{Causes, IsCaused}
+use Rattle.command_ends.specs.Causes.{Causes, IsCaused}
 use Rattle.dispatch.specs.Servings.{DisksTell, FileTells, SourceTells, StopsAtShelf, GivesRow, end_of_workers, end_of_session, ServesFor, ServeComes}
 use Rattle.command_ends.specs.declared.command_end.CommandEnd.{CommandEnd}
 use Rattle.command_ends.specs.declared.command_end.CommandEnd.TheVariants.{Memory, Failed}

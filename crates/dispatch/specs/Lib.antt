@@ -1,5 +1,4 @@
 pub mod Appendings
-pub mod Causes
 pub mod Chains
 pub mod Commands
 pub mod LiveEnds

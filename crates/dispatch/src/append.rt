@@ -4,8 +4,8 @@ ghost use Rattle.std.specs.Prelude.{◌≡◌, ◌⊎◌, ◌≤◌, []};
 ghost use Rattle.std.specs.Io.KnownBytes.{Appends};
 ghost use Rattle.pump_frame.specs.Counts.{Rose};
 ghost use Rattle.peers.specs.Appending.{link_tells};
+ghost use Rattle.command_ends.specs.Causes.{HasStatusCause};
 ghost use Rattle.dispatch.specs.Appendings.{end_of_appender, AppendsFor, AppendComes};
-ghost use Rattle.dispatch.specs.Causes.{HasStatusCause};
 ghost use Rattle.dispatch.specs.LiveEnds.{EndsLive};
 
 use command_ends::{CommandEnd, finish, row_in_file};
@@ -90,7 +90,7 @@ pub fn append_session<S: Shelf, P: Ports, I: Source, O: Sink>(
       unwritten = Rose (O.faults out.old) (O.faults out.new);
       device = λ role. ⊥;
       link = ⊥;
-    }) result }
+    }) ⊥ result }
     ensures disks { S.told.disk shelf.new ≡ S.told.disk shelf.old }
 {
     match row_in_file(alloc, shelf, table.as_str(), session) {

@@ -8,7 +8,7 @@ ghost use Rattle.pump_frame.specs.Rows.{IsLawfulRow};
 ghost use Rattle.script_replay.specs.Shelves.{AllAreBack, disk_name, reading_at};
 ghost use Rattle.serving.specs.Doors.{links};
 ghost use Rattle.commands.specs.LentDisks.{LeavesOtherDisks, RecvFailsAt};
-ghost use Rattle.dispatch.specs.Causes.{IsCaused, HasStatusCause};
+ghost use Rattle.command_ends.specs.Causes.{IsCaused, HasStatusCause};
 ghost use Rattle.dispatch.specs.LiveEnds.{EndsLive};
 ghost use Rattle.dispatch.specs.Receptions.{end_of_receiver, ReceivesFor, ReceiveComes};
 
@@ -150,7 +150,7 @@ pub fn receive_session<S: Shelf, P: Ports, O: Sink>(
       unwritten = Rose (O.faults out.old) (O.faults out.new);
       device = λ role. Rose (S.told.disk_faults shelf.old) (S.told.disk_faults shelf.new);
       link = Rose (P.faults ports.old) (P.faults ports.new);
-    }) result }
+    }) ⊥ result }
 {
     match row_in_file(alloc, shelf, table.as_str(), session) {
         Ok(row) => {

@@ -4,7 +4,7 @@ ghost use Rattle.std.specs.Prelude.{◌≡◌, ◌⊎◌, ◌≤◌, [], Err};
 ghost use Rattle.std.specs.Io.KnownBytes.{Appends};
 ghost use Rattle.pump_frame.specs.Counts.{Rose};
 ghost use Rattle.serving.specs.Doors.{links};
-ghost use Rattle.dispatch.specs.Causes.{IsCaused, HasStatusCause};
+ghost use Rattle.command_ends.specs.Causes.{IsCaused, HasStatusCause};
 ghost use Rattle.dispatch.specs.LiveEnds.{EndsLive};
 ghost use Rattle.dispatch.specs.Sendings.{end_of_sender, SendsFor, SendComes};
 
@@ -83,7 +83,7 @@ pub fn send_session<S: Shelf, P: Ports, I: Source, O: Sink>(
       unwritten = Rose (O.faults out.old) (O.faults out.new);
       device = λ role. ⊥;
       link = Rose (P.faults ports.old) (P.faults ports.new);
-    }) result }
+    }) ⊥ result }
     ensures disks { S.told.disk shelf.new ≡ S.told.disk shelf.old }
 {
     match row_in_file(alloc, shelf, table.as_str(), session) {

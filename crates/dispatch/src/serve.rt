@@ -8,7 +8,7 @@ ghost use Rattle.relay_side.specs.Sides.{side};
 ghost use Rattle.script_replay.specs.Failing.{FailsAt};
 ghost use Rattle.script_replay.specs.Shelves.{AllAreBack};
 ghost use Rattle.serving.specs.Doors.{doors, links};
-ghost use Rattle.dispatch.specs.Causes.{IsCaused, HasStatusCause};
+ghost use Rattle.command_ends.specs.Causes.{IsCaused, HasStatusCause};
 ghost use Rattle.dispatch.specs.LiveEnds.{EndsLive};
 ghost use Rattle.commands.specs.LentDisks.{LeavesBut};
 ghost use Rattle.dispatch.specs.Servings.{disks, file, source, end_of_workers, end_of_session, ServesFor};
@@ -154,7 +154,7 @@ where
       device = λ role. Rose (S.told.disk_faults shelf.old) (S.told.disk_faults shelf.new);
       link = Rose (P.faults low.old.ports) (P.faults low.new.ports)
           ⊎ Rose (P.faults high.old.ports) (P.faults high.new.ports);
-    }) result }
+    }) ⊥ result }
 {
     match row_in_file(alloc, shelf, table.as_str(), session) {
         Ok(row) => {

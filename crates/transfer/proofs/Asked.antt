@@ -1,12 +1,12 @@
 -- What the words ask for, and which command ends so.
-use Rattle.std.proofs.Common.{◌≡◌, ◌⊎◌, ℕ, true, List, Result, Ok, Err, inl, inr, map, String, Global, string_bytes, sym, ◌∙◌, subst}
+use Rattle.std.proofs.Common.{◌≡◌, ◌⊎◌, ℕ, true, List, Result, Ok, Err, map, String, Global, string_bytes, sym, ◌∙◌, subst}
 use Rattle.command_line.specs.Commands.{AreWordsOf}
-use Rattle.command_line.proofs.Asked.{Asks, not_command, read_words}
+use Rattle.command_line.proofs.Asked.{not_command, read_words}
 use Rattle.command_line.specs.declared.command.Command.{Command}
 use Rattle.command_line.specs.declared.command.Command.TheVariants.{DropFiles, CollectFiles}
 use Rattle.command_line.specs.declared.command.WordsFault.{WordsFault}
 use Rattle.command_line.specs.declared.command.WordsFault.TheVariants.{NoCommand, Memory}
-use Rattle.transfer.specs.Commands.{is_transfer, IsNoTransfer}
+use Rattle.transfer.specs.Commands.{is_transfer}
 
 -- the words are those of no command
 abbrev pub AreNone : List (List ℕ) → Type 0

@@ -1,13 +1,12 @@
 -- Lines that were written whole or in part, and ends by their causes.
-use Rattle.std.proofs.Common.{◌≡◌, ℕ, ◌+◌, ◌≤◌, Bool, true, List, length, Option, arith, refl, sym, subst}
+use Rattle.std.proofs.Common.{◌≡◌, ℕ, ◌+◌, ◌≤◌, Bool, true, List, length, Option, arith, refl, subst}
 use Rattle.std.specs.Io.KnownBytes.{Appends}
 use Rattle.pump_frame.specs.Counts.{Rose}
 use Rattle.pump_link.specs.Causes.{AppendsPrefix}
-use Rattle.peers.specs.Outputs.{PrintsPart}
 use Rattle.file_peers.specs.declared.collect.CollectEnd.{CollectEnd}
 use Rattle.file_peers.specs.declared.collect.CollectEnd.TheVariants as party
 use Rattle.pump_frame.specs.declared.row.SessionRow.{SessionRow}
-use Rattle.peers.specs.Outputs.{Counts as Lasts}
+use Rattle.peers.specs.Outputs.{Counts, PrintsPart}
 use Rattle.folders.specs.Outboxes.{Dropping}
 use Rattle.file_dropper.specs.declared.dropper.Dropper.{Dropper}
 use Rattle.file_peers.specs.Dropping.{Drops, Stop, StopsBy, Resting, Giving, Telling, Asking, Taking, Ending}
@@ -15,9 +14,10 @@ use Rattle.file_peers.specs.Dropping.{Visit, Ungreeted, Unsettled, Untold, Greet
 use Rattle.file_peers.specs.declared.drop.DropEnd.{DropEnd}
 use Rattle.file_peers.specs.declared.drop.DropEnd.TheVariants as low
 use Rattle.file_dropper.specs.declared.answers.DropFault.TheVariants as faults
+use Rattle.command_ends.specs.Causes.{Causes}
 use Rattle.transfer.specs.Collecting.{end_of_collector}
 use Rattle.transfer.specs.Dropping.{end_of_dropper}
-use Rattle.transfer.specs.Ends.{Counts, IsCaused, WritesNothing}
+use Rattle.transfer.specs.Ends.{IsTransferCaused}
 
 pub told_in_part : (old new : Option (List ℕ)) (whole : Bool) (line : List ℕ) → PrintsPart old new whole line → AppendsPrefix old new line
 told_in_part old new whole line p = (p.0, p.1.0, p.1.1, p.3)
@@ -28,29 +28,29 @@ told_whole old new whole line p is = subst (Appends old new) (p.2 is) p.3
 pub rose_before : (a b c : ℕ) → a ≤ b → Rose b c → Rose a c
 rose_before a b c low rose = omega (arith, low, rose)
 
-pub collector_caused : (end : CollectEnd) (n : Counts) → (end ≡ party.Write → Rose n.out n.now_out) → IsCaused (end_of_collector end) n
-collector_caused party.Ended n h = tt
-collector_caused party.Looks n h = tt
-collector_caused party.Write n h = h refl
-collector_caused (party.Folder faults) n h = tt
-collector_caused (party.NameTaken number) n h = tt
-collector_caused (party.Device faults) n h = tt
-collector_caused (party.Ahead number count) n h = tt
+pub collector_caused : (c : Causes) (end : CollectEnd) → (end ≡ party.Write → c.unwritten) → IsTransferCaused c (end_of_collector end)
+collector_caused c party.Ended h = tt
+collector_caused c party.Looks h = tt
+collector_caused c party.Write h = h refl
+collector_caused c (party.Folder faults) h = tt
+collector_caused c (party.NameTaken number) h = tt
+collector_caused c (party.Device faults) h = tt
+collector_caused c (party.Ahead number count) h = tt
 
-pub dropper_caused : (end : DropEnd) (n : Counts) → (end ≡ low.Write → Rose n.out n.now_out) → IsCaused (end_of_dropper end) n
-dropper_caused low.Ended n h = tt
-dropper_caused low.Looks n h = tt
-dropper_caused low.Write n h = h refl
-dropper_caused (low.Refused code number) n h = tt
-dropper_caused (low.Unfinished number) n h = tt
-dropper_caused (low.Failed faults.Folder) n h = tt
-dropper_caused (low.Failed faults.Marks) n h = tt
-dropper_caused (low.Failed (faults.Step start accepted)) n h = tt
-dropper_caused (low.Failed faults.TooLong) n h = tt
-dropper_caused (low.Failed faults.Full) n h = tt
+pub dropper_caused : (c : Causes) (end : DropEnd) → (end ≡ low.Write → c.unwritten) → IsTransferCaused c (end_of_dropper end)
+dropper_caused c low.Ended h = tt
+dropper_caused c low.Looks h = tt
+dropper_caused c low.Write h = h refl
+dropper_caused c (low.Refused code number) h = tt
+dropper_caused c (low.Unfinished number) h = tt
+dropper_caused c (low.Failed faults.Folder) h = tt
+dropper_caused c (low.Failed faults.Marks) h = tt
+dropper_caused c (low.Failed (faults.Step start accepted)) h = tt
+dropper_caused c (low.Failed faults.TooLong) h = tt
+dropper_caused c (low.Failed faults.Full) h = tt
 
 -- a party that could not write a line tells that the sink failed
-module _ {O F : Type 0} (m : Dropping O) (faults : F → ℕ) (n : Lasts) where
+module _ {O F : Type 0} (m : Dropping O) (faults : F → ℕ) (n : Counts) where
   stop_unwritten : (session message number left : ℕ) (old : Dropper O F) (stop : Stop O F) → StopsBy m faults session message number left old stop n low.Write → Rose n.out n.now_out
   stop_unwritten session message number left old (Resting looks passed dropper) h = absurd h.1
   stop_unwritten session message number left old (Giving dropper) h = absurd h

@@ -1,11 +1,10 @@
 -- How a command that carries files ends, and what it writes then.
 use Rattle.std.specs.Prelude.{◌≡◌, ◌⊎◌, ℕ, ◌≤◌, List, [], ◌∷◌, Option, codes, decimal}
 use Rattle.std.specs.Io.KnownBytes.{Appends}
-use Rattle.pump_frame.specs.Counts.{Rose}
 use Rattle.pump_link.specs.Causes.{AppendsPrefix}
 use Rattle.script_reader.specs.Transcript.{line_with_end}
+use Rattle.command_ends.specs.Causes.{Causes, IsCaused}
 use Rattle.command_ends.specs.CommandEnds.{end_status, end_line}
-use Rattle.command_ends.specs.declared.command_end.CommandEnd.TheVariants.{Memory, Unread, Unconnected, Unwritten}
 use Rattle.transfer.specs.declared.ending.TransferEnd.{TransferEnd}
 use Rattle.transfer.specs.declared.ending.TransferEnd.TheVariants.{Command, Folder, NameTaken, Marks, Register, Step}
 use Rattle.transfer.specs.declared.ending.TransferEnd.TheVariants.{TooLong}
@@ -47,29 +46,7 @@ pub record EndsTransfer (Comes : TransferEnd → Option (List ℕ) → ℕ → T
   pub last : Closes mid new session end status
   pub later : mid_faults ≤ now_faults
 
--- how often files, ports and the sink had failed before a call, and at its end
-pub record Counts : Type 0 where
-  pub files : ℕ
-  pub now_files : ℕ
-  pub ports : ℕ
-  pub now_ports : ℕ
-  pub out : ℕ
-  pub now_out : ℕ
-
--- an end that names a read, the output or a port comes only where that failed
-abbrev pub IsCaused : TransferEnd → Counts → Type 0
-IsCaused (Command Unread) n = Rose n.files n.now_files
-IsCaused (Command Unwritten) n = Rose n.out n.now_out
-IsCaused (Command Unconnected) n = Rose n.ports n.now_ports
-IsCaused end n = Unit {0}
-
--- .. and so a status: 3 for a read, 4 for the output, and 9 for a port
-pub record HasStatusCause (status : ℕ) (n : Counts) : Type 0 where
-  pub read : status ≡ 3 → Rose n.files n.now_files
-  pub unwritten : status ≡ 4 → Rose n.out n.now_out
-  pub link : status ≡ 9 → Rose n.ports n.now_ports
-
--- nothing was written where memory was wanting
-abbrev pub WritesNothing : TransferEnd → Option (List ℕ) → Option (List ℕ) → Type 0
-WritesNothing (Command Memory) old new = Appends old new []
-WritesNothing end old new = Unit {0}
+-- An end comes only by its cause. Those that a folder alone has name none.
+abbrev pub IsTransferCaused : Causes → TransferEnd → Type 0
+IsTransferCaused c (Command end) = IsCaused c end
+IsTransferCaused c end = Unit {0}

@@ -4,13 +4,14 @@ ghost use Rattle.std.specs.Prelude.{◌≡◌, ◌≤◌, ◌∷◌, ◌++◌, [
 ghost use Rattle.std.specs.Io.KnownBytes.{Appends};
 ghost use Rattle.pump_frame.specs.Counts.{Rose};
 ghost use Rattle.pump_frame.specs.Rows.{IsLawfulRow};
+ghost use Rattle.command_ends.specs.Causes.{HasStatusCause};
 ghost use Rattle.peers.specs.Appending.{link_tells};
 ghost use Rattle.peers.specs.Outputs.{PrintsPart};
 ghost use Rattle.file_collector.specs.Collecting.{IsCollecting, taken_count};
 ghost use Rattle.file_collector.specs.declared.collector.Collector.{Collector as Collecting};
 ghost use Rattle.transfer.specs.Collecting.{CollectComes, CollectsFor, CollectsIn, CollectsOver, end_of_collector};
 ghost use Rattle.transfer.specs.Collecting.{end_of_opening, lost_line};
-ghost use Rattle.transfer.specs.Ends.{EndsTransfer, HasStatusCause, IsCaused, WritesNothing};
+ghost use Rattle.transfer.specs.Ends.{EndsTransfer, IsTransferCaused};
 
 use crate::ending::{TransferEnd, finish};
 use crate::errand::{Errand, LEAST_MESSAGE};
@@ -112,15 +113,13 @@ where
         × CollectsOver (link_tells P.Link.gives P.Link.sent P.Link.faults) I.told I.Disk.told looks
         (P.did ports.old) (P.did ports.new) (O.written out.old) (O.faults out.old) row.now collector now result.end
         (O.written out.new) (O.faults out.new) }
-    ensures cause { IsCaused result.end (record {
-      files = 0;
-      now_files = 0;
-      ports = P.faults ports.old;
-      now_ports = P.faults ports.new;
-      out = O.faults out.old;
-      now_out = O.faults out.new;
-    }) }
-    ensures memory { WritesNothing result.end (O.written out.old) (O.written out.new) }
+    ensures cause { IsTransferCaused (record {
+      memory = Appends (O.written out.old) (O.written out.new) [];
+      read = ⊥;
+      unwritten = Rose (O.faults out.old) (O.faults out.new);
+      device = λ role. Unit;
+      link = Rose (P.faults ports.old) (P.faults ports.new);
+    }) result.end }
     ensures later { O.faults out.old ≤ O.faults out.new }
 {
     if !tell_lost(row.id, collector.taken(), collector.lost(), out) {
@@ -148,15 +147,13 @@ where
     ensures collects { CollectsIn (link_tells P.Link.gives P.Link.sent P.Link.faults) I.told I.Disk.told looks
         (P.did ports.old) (P.did ports.new) (O.written out.old) (O.faults out.old) row.now inbox result.inbox
         result.end (O.written out.new) (O.faults out.new) }
-    ensures cause { IsCaused result.end (record {
-      files = 0;
-      now_files = 0;
-      ports = P.faults ports.old;
-      now_ports = P.faults ports.new;
-      out = O.faults out.old;
-      now_out = O.faults out.new;
-    }) }
-    ensures memory { WritesNothing result.end (O.written out.old) (O.written out.new) }
+    ensures cause { IsTransferCaused (record {
+      memory = Appends (O.written out.old) (O.written out.new) [];
+      read = ⊥;
+      unwritten = Rose (O.faults out.old) (O.faults out.new);
+      device = λ role. Unit;
+      link = Rose (P.faults ports.old) (P.faults ports.new);
+    }) result.end }
     ensures later { O.faults out.old ≤ O.faults out.new }
 {
     match Collector::open(inbox) {
@@ -182,15 +179,13 @@ where
         F.Inbox.Disk.told errand.now.looks (P.did ports.old) (P.did ports.new) (O.written out.old) (O.faults out.old)
         (F.did folders.old) (F.did folders.new) errand.now.folder.now row.now result (O.written out.new)
         (O.faults out.new) }
-    ensures cause { IsCaused result (record {
-      files = 0;
-      now_files = 0;
-      ports = P.faults ports.old;
-      now_ports = P.faults ports.new;
-      out = O.faults out.old;
-      now_out = O.faults out.new;
-    }) }
-    ensures memory { WritesNothing result (O.written out.old) (O.written out.new) }
+    ensures cause { IsTransferCaused (record {
+      memory = Appends (O.written out.old) (O.written out.new) [];
+      read = ⊥;
+      unwritten = Rose (O.faults out.old) (O.faults out.new);
+      device = λ role. Unit;
+      link = Rose (P.faults ports.old) (P.faults ports.new);
+    }) result }
     ensures later { O.faults out.old ≤ O.faults out.new }
 {
     if row.message < LEAST_MESSAGE {
@@ -224,15 +219,13 @@ where
         (F.did folders.old) (F.did folders.new) errand.now.folder.now
         (S.told.file shelf.old errand.now.table.now) (S.told.faults shelf.old) (S.told.faults shelf.new)
         errand.now.session result (O.written out.new) (O.faults out.new) }
-    ensures cause { IsCaused result (record {
-      files = S.told.faults shelf.old;
-      now_files = S.told.faults shelf.new;
-      ports = P.faults ports.old;
-      now_ports = P.faults ports.new;
-      out = O.faults out.old;
-      now_out = O.faults out.new;
-    }) }
-    ensures memory { WritesNothing result (O.written out.old) (O.written out.new) }
+    ensures cause { IsTransferCaused (record {
+      memory = Appends (O.written out.old) (O.written out.new) [];
+      read = Rose (S.told.faults shelf.old) (S.told.faults shelf.new);
+      unwritten = Rose (O.faults out.old) (O.faults out.new);
+      device = λ role. Unit;
+      link = Rose (P.faults ports.old) (P.faults ports.new);
+    }) result }
     ensures disks { S.told.disk shelf.new ≡ S.told.disk shelf.old }
     ensures later { O.faults out.old ≤ O.faults out.new }
 {
@@ -261,16 +254,13 @@ where
         (O.faults out.old) (F.did folders.old) (F.did folders.new) errand.now.folder.now
         (S.told.file shelf.old errand.now.table.now) (S.told.faults shelf.old) (S.told.faults shelf.new)
         errand.now.session) (O.written out.new) (O.faults out.new) errand.now.session result }
-    ensures cause { HasStatusCause result (record {
-      files = S.told.faults shelf.old;
-      now_files = S.told.faults shelf.new;
-      ports = P.faults ports.old;
-      now_ports = P.faults ports.new;
-      out = O.faults out.old;
-      now_out = O.faults out.new;
-    }) }
-    ensures memory { result ≡ 1 → Appends (O.written out.old) (O.written out.new) [] }
-    ensures words { result ≡ 2 → ⊥ }
+    ensures cause { HasStatusCause (record {
+      memory = Appends (O.written out.old) (O.written out.new) [];
+      read = Rose (S.told.faults shelf.old) (S.told.faults shelf.new);
+      unwritten = Rose (O.faults out.old) (O.faults out.new);
+      device = λ role. Unit;
+      link = Rose (P.faults ports.old) (P.faults ports.new);
+    }) ⊥ result }
     ensures disks { S.told.disk shelf.new ≡ S.told.disk shelf.old }
 {
     let end = run_collect(alloc, errand, shelf, folders, ports, out);

@@ -4,14 +4,14 @@ ghost use Rattle.std.specs.Prelude.{◌≡◌, ◌⊎◌, ◌≤◌, ℕ, true, 
 ghost use Rattle.std.specs.Io.KnownBytes.{Appends};
 ghost use Rattle.pump_frame.specs.Counts.{Rose};
 ghost use Rattle.command_line.specs.Commands.{AreWordsOf};
-ghost use Rattle.command_line.specs.declared.command.Command.{Command as Asked};
 ghost use Rattle.command_line.specs.declared.command.Command.TheVariants as commands;
+ghost use Rattle.command_ends.specs.Causes.{HasStatusCause};
 ghost use Rattle.command_ends.specs.CommandEnds.{RefusesWords};
 ghost use Rattle.peers.specs.Appending.{link_tells};
-ghost use Rattle.transfer.specs.Commands.{is_transfer, IsNoTransfer};
+ghost use Rattle.transfer.specs.Commands.{IsNoTransfer};
 ghost use Rattle.transfer.specs.Collecting.{CollectComes};
 ghost use Rattle.transfer.specs.Dropping.{DropComes};
-ghost use Rattle.transfer.specs.Ends.{EndsTransfer, HasStatusCause};
+ghost use Rattle.transfer.specs.Ends.{EndsTransfer};
 
 use crate::collecting::collect_files;
 use crate::dropping::drop_files;
@@ -59,20 +59,16 @@ where
         × (folders.new ≡ folders.old) × (ports.new ≡ ports.old) }
     ensures words { IsNoTransfer (map string_bytes words.now.items)
         → RefusesWords (O.written out.old) (O.written out.new) result }
-    ensures known { (c : Asked) → is_transfer c ≡ true → AreWordsOf (map string_bytes words.now.items) c
-        → (result ≡ 2 → ⊥) }
     // No disk leaves the shelf.
     ensures disks { S.told.disk shelf.new ≡ S.told.disk shelf.old }
-    // The statuses that come only where a count rose.
-    ensures cause { HasStatusCause result (record {
-      files = S.told.faults shelf.old;
-      now_files = S.told.faults shelf.new;
-      ports = P.faults ports.old;
-      now_ports = P.faults ports.new;
-      out = O.faults out.old;
-      now_out = O.faults out.new;
-    }) }
-    ensures memory { result ≡ 1 → Appends (O.written out.old) (O.written out.new) [] }
+    // The statuses that come only by a cause.
+    ensures cause { HasStatusCause (record {
+      memory = Appends (O.written out.old) (O.written out.new) [];
+      read = Rose (S.told.faults shelf.old) (S.told.faults shelf.new);
+      unwritten = Rose (O.faults out.old) (O.faults out.new);
+      device = λ role. Unit;
+      link = Rose (P.faults ports.old) (P.faults ports.new);
+    }) (IsNoTransfer (map string_bytes words.now.items)) result }
     ensures drop { (table folder : List ℕ) (session looks : ℕ)
         → AreWordsOf (map string_bytes words.now.items) (commands.DropFiles table session looks folder)
         → S.told.tells → EndsTransfer (DropComes (link_tells P.Link.gives P.Link.sent P.Link.faults)

@@ -1,7 +1,7 @@
 //! Words that are no command: which of them is wrong.
 
 use super::word;
-use command_line::{USAGE, WordsFault, command_of};
+use command_line::{COMMAND_LINES, Usage, Wanted, WordsFault, command_of};
 use std::alloc::{AllocError, Global};
 use std::io;
 
@@ -18,7 +18,7 @@ struct Listed {
 
 /// The command of this name.
 fn find(name: &str) -> Option<Listed> {
-    USAGE
+    COMMAND_LINES
         .lines()
         .filter_map(command_in)
         .find(|command| command.name == name)
@@ -29,30 +29,6 @@ fn command_in(line: &'static str) -> Option<Listed> {
     let (spelled, _) = line.strip_prefix("  ")?.split_once("  ")?;
     let (name, values) = spelled.split_once(' ').unwrap_or((spelled, ""));
     Some(Listed { name, values, line })
-}
-
-/// What may stand for this value of a command.
-fn spelling_of(value: &str) -> &'static str {
-    match value {
-        "TABLE" | "NEWTABLE" => {
-            "the name of a file in this folder: 1 to 64 letters, digits, dots, underscores and dashes, the first a \
-            letter or a digit"
-        }
-        "FOLDER" => {
-            "the name of a folder in this one: 1 to 64 letters, digits, dots, underscores and dashes, the first a \
-            letter or a digit"
-        }
-        "LOOKS" => {
-            "a number from 1 to 4294967295, without zeros before it; a look or a round that finds nothing takes about \
-            a millisecond"
-        }
-        "COUNT" => "a number from 1 to 100000, without zeros before it",
-        "TIMES" => {
-            "1 to 16 numbers up to 1000000000 with commas between, as 50,700,20: how many microseconds the receiver \
-            takes for each message in turn"
-        }
-        _ => "a number below 4294967296, without a sign and without zeros before it",
-    }
 }
 
 /// These words, with 1 in place of each value but the one in this place. 1 may stand for every value.
@@ -106,9 +82,9 @@ fn explain_values(rt: &HostRuntime, command: &Listed, words: &[String]) -> io::R
     match first_wrong(rt.alloc(), values, words) {
         Some((value, word)) => eprintln!(rt;
             "netpump {VERSION}: the word '{word}' can't stand for {value} of {name}, which is {}; type it so:\n{line}",
-            spelling_of(value)
+            Wanted(value)
         ),
-        None => eprintln!(rt; "netpump {VERSION}: these words are no command; {USAGE}"),
+        None => eprintln!(rt; "netpump {VERSION}: these words are no command; {Usage}"),
     }
 }
 
@@ -117,8 +93,8 @@ pub fn explain_words(rt: &HostRuntime, words: &[String]) -> io::Result<()> {
     match (word(words, 0), word(words, 0).and_then(find)) {
         (Some(_), Some(command)) => explain_values(rt, &command, words),
         (Some(name), None) => eprintln!(rt;
-            "netpump {VERSION}: the word '{name}' is no command; {USAGE}"
+            "netpump {VERSION}: the word '{name}' is no command; {Usage}"
         ),
-        (None, _) => eprintln!(rt; "netpump {VERSION}: there is no word; {USAGE}"),
+        (None, _) => eprintln!(rt; "netpump {VERSION}: there is no word; {Usage}"),
     }
 }

@@ -10,7 +10,7 @@ use Rattle.peers.specs.Receiving.{StandsForPrefix, attempted, messages, place_of
 use Rattle.two_worlds.proofs.Opening.Opened.{value_by}
 use Rattle.commands.specs.LentDisks.{StopsAtDisk}
 use Rattle.commands.proofs.LentDisks.{stops_at_disk}
-use Rattle.dispatch.specs.Causes.{IsCaused}
+use Rattle.command_ends.specs.Causes.{IsCaused}
 use Rattle.dispatch.proofs.Received.{sized}
 use Rattle.dispatch.proofs.Sent.{received_caused, refused_caused}
 use Rattle.dispatch.proofs.receive.receive_on.Goals as goal

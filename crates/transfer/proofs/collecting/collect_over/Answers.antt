@@ -1,12 +1,10 @@
-use Rattle.std.proofs.Common.{rules, ◌≡◌, ◌∷◌, [], ℕ, List, inl, inr, refl, sym, ap₂, ◌∙◌, subst}
+use Rattle.std.proofs.Common.{rules, ◌∷◌, [], inl, inr, refl, sym, ap₂, ◌∙◌, subst}
 use Rattle.std.specs.Io.KnownBytes.{Appends}
 use Rattle.pump_link.specs.Causes.{AppendsPrefix}
 use Rattle.pump_link.specs.Ports.{Connected, BackToPorts}
 use Rattle.pump_link.proofs.Grown.{Grows-nil, Grows-then}
-use Rattle.file_collector.specs.Collecting.{taken_count}
 use Rattle.transfer.specs.Collecting.{lost_line}
-use Rattle.transfer.specs.Ends.{IsCaused}
-use Rattle.transfer.specs.declared.ending.TransferEnd.{TransferEnd}
+use Rattle.transfer.specs.Ends.{IsTransferCaused}
 use Rattle.transfer.proofs.Told.{told_in_part, told_whole, rose_before, collector_caused}
 use Rattle.transfer.proofs.collecting.collect_over.Goals as goal
 
@@ -51,6 +49,6 @@ returns-clause-collects g c =
 pub returns-clause-cause : goal.returns-clause-cause
 returns-clause-cause g c =
     let e = c.collect_with-end in
-    subst (λ (end : TransferEnd). IsCaused end (record { files = 0; now_files = 0; ports = g.P.Ports.faults c.args.ports.now; now_ports = g.P.Ports.faults c.back.new.self; out = g.O.Sink.faults c.args.out.now; now_out = g.O.Sink.faults e.new.out }))
+    subst (IsTransferCaused _)
     (sym (c.closed-2.ensures.end ∙ c.end_of_collector.ensures))
-    (collector_caused e.result _ (λ is. rose_before _ _ _ c.tell_lost.ensures.later (e.ensures.unwritten is)))
+    (collector_caused _ e.result (λ is. rose_before _ _ _ c.tell_lost.ensures.later (e.ensures.unwritten is)))

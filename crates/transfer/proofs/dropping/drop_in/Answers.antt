@@ -1,9 +1,7 @@
-use Rattle.std.proofs.Common.{◌≡◌, ◌∷◌, [], ℕ, List, inl, inr, refl, sym, ap, ◌∙◌, subst}
+use Rattle.std.proofs.Common.{◌∷◌, [], inr, sym, ap, ◌∙◌, subst}
 use Rattle.pump_link.specs.Ports.{Connected, BackToPorts}
 use Rattle.pump_link.proofs.Grown.{Grows-then}
-use Rattle.transfer.specs.Dropping.{HasDropped}
-use Rattle.transfer.specs.Ends.{IsCaused}
-use Rattle.transfer.specs.declared.ending.TransferEnd.{TransferEnd}
+use Rattle.transfer.specs.Ends.{IsTransferCaused}
 use Rattle.file_peers.specs.Dropping.{Drops}
 use Rattle.file_peers.specs.declared.drop.DropEnd.{DropEnd}
 use Rattle.transfer.proofs.Told.{dropper_caused, visit_unwritten}
@@ -37,6 +35,6 @@ returns-clause-drops g c =
 pub returns-clause-cause : goal.returns-clause-cause
 returns-clause-cause g c =
     let e = c.drop_with-end in
-    subst (λ (end : TransferEnd). IsCaused end (record { files = 0; now_files = 0; ports = g.P.Ports.faults c.args.ports.now; now_ports = g.P.Ports.faults c.back.new.self; out = g.O.Sink.faults c.args.out.now; now_out = g.O.Sink.faults e.new.out }))
+    subst (IsTransferCaused _)
     (sym c.end_of_dropper.ensures)
-    (dropper_caused e.result _ (λ is. visit_unwritten g.F.Outbox.told g.F.File.Source.faults _ c.args.row.now e.ensures.drops.1 c.open-dropper.result e.ensures.drops.0 (subst (λ (end : DropEnd). Drops g.F.Outbox.told g.F.File.Source.faults c.args.row.now e.ensures.drops.1 c.open-dropper.result e.ensures.drops.0 (record { link = g.P.Link.Link.faults c.in-Ok.link; now_link = g.P.Link.Link.faults e.new.link; out = g.O.Sink.faults c.args.out.now; now_out = g.O.Sink.faults e.new.out; other = 0; now_other = 0 }) end) is e.ensures.drops.2)))
+    (dropper_caused _ e.result (λ is. visit_unwritten g.F.Outbox.told g.F.File.Source.faults _ c.args.row.now e.ensures.drops.1 c.open-dropper.result e.ensures.drops.0 (subst (λ (end : DropEnd). Drops g.F.Outbox.told g.F.File.Source.faults c.args.row.now e.ensures.drops.1 c.open-dropper.result e.ensures.drops.0 (record { link = g.P.Link.Link.faults c.in-Ok.link; now_link = g.P.Link.Link.faults e.new.link; out = g.O.Sink.faults c.args.out.now; now_out = g.O.Sink.faults e.new.out; other = 0; now_other = 0 }) end) is e.ensures.drops.2)))

@@ -1,5 +1,4 @@
-use Rattle.std.proofs.Common.{rules, ◌≡◌, ℕ, List, inl, inr, refl, sym, ◌∙◌}
-use Rattle.std.specs.Io.KnownBytes.{Appends}
+use Rattle.std.proofs.Common.{rules, ℕ, List, inl, refl, sym}
 use Rattle.pump_link.proofs.Grown.{Grows-nil}
 use Rattle.command_line.specs.declared.command.Command.TheVariants as commands
 use Rattle.command_ends.specs.declared.command_end.CommandEnd.TheVariants as ends
@@ -78,10 +77,8 @@ returns-in_default g c =
     record {
       untouched = λ words. (refl, refl, refl);
       words = λ words. inl told;
-      known = λ d is words. elim (none d is (a.only d words)) [ ];
       disks = refl;
       cause = search rules;
-      memory = search rules;
       drop = λ table folder session looks words. elim (none (commands.DropFiles table session looks folder) refl (a.only (commands.DropFiles table session looks folder) words)) [ ];
       collect = λ table folder session looks words. elim (none (commands.CollectFiles table session looks folder) refl (a.only (commands.CollectFiles table session looks folder) words)) [ ];
     }

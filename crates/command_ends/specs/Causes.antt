@@ -1,5 +1,4 @@
--- By which causes a call over links or doors comes to its end. It serves private clauses alone, and need not be
--- believed: `live` says the same in words of its own.
+-- By which cause a command over a session of the table comes to its end, and what its status says of that.
 use Rattle.std.specs.Prelude.{◌≡◌, ℕ}
 use Rattle.disk_model.specs.declared.name.Role.{Role}
 use Rattle.command_ends.specs.declared.command_end.CommandEnd.{CommandEnd}
@@ -23,10 +22,10 @@ IsCaused c (Failed role) = c.device role
 IsCaused c Unconnected = c.link
 IsCaused c end = Unit {0}
 
--- .. and so a status, which is not that of words
-pub record HasStatusCause (c : Causes) (status : ℕ) : Type 0 where
+-- .. and so a status, where `Words` is so if the words are no such command
+pub record HasStatusCause (c : Causes) (Words : Type 0) (status : ℕ) : Type 0 where
   pub memory : status ≡ 1 → c.memory
-  pub words : status ≡ 2 → ⊥
+  pub words : status ≡ 2 → Words
   pub read : status ≡ 3 → c.read
   pub unwritten : status ≡ 4 → c.unwritten
   pub device : status ≡ 7 → (role : Role) × c.device role

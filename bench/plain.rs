@@ -35,7 +35,7 @@ impl Reg {
 enum Phase { Idle, Passing(u64, bool), Waiting(u64, u64) }
 enum Arr { Hello(Vec<u8>, Vec<u8>), Data(u64, Vec<u8>) }
 struct S {
-    cap: u64, msg: usize, win: usize, start: u64, longest: u64, resend: u64, lo: Vec<u8>, hi: Vec<u8>,
+    cap: u64, message: usize, win: usize, start: u64, longest: u64, resend: u64, lo: Vec<u8>, hi: Vec<u8>,
     low: Reg, high: Reg, recv: Reg, end: u64,
     e: u64, b: u64, r: u64, acc: VecDeque<Vec<u8>>, held: u64, hand: bool,
     first: Option<u64>, last: u64, times: VecDeque<u64>, sum: u64, published: u64,
@@ -66,7 +66,7 @@ impl S {
                 }
                 Some(Arr::Data(n, p)) => {
                     if !self.greeted { writeln!(out, "low {id} {m} refuse 2 0")? }
-                    else if p.len() > self.msg { writeln!(out, "low {id} {m} refuse 3 0")? }
+                    else if p.len() > self.message { writeln!(out, "low {id} {m} refuse 3 0")? }
                     else if n > self.e { writeln!(out, "low {id} {m} refuse 4 {}", self.e)? }
                     else if n < self.e {
                         let a = self.avg();
@@ -75,7 +75,7 @@ impl S {
                     } else {
                         let mut rec = (p.len() as u16).to_be_bytes().to_vec();
                         rec.extend(&p);
-                        self.low.d.write(80 + (n % self.cap) * (2 + self.msg as u64), &rec);
+                        self.low.d.write(80 + (n % self.cap) * (2 + self.message as u64), &rec);
                         self.low.update(n + 1, 0);
                         self.acc.push_back(p);
                         self.e += 1;
@@ -161,9 +161,9 @@ fn main() -> io::Result<()> {
                     d.write(0, &b); d.sync();
                     Reg { d, sel: 0 }
                 };
-                let (cap, msg) = (n(2), n(3) as usize);
-                ss.insert(id, S { cap, msg, win: n(4) as usize, start: n(5), longest: n(6), resend: n(7), lo: f[8].to_vec(), hi: f[9].to_vec(),
-                    low: disk("low", b'L', 80 + cap as usize * (2 + msg)), high: disk("high", b'H', 80), recv: disk("recv", b'R', 80), end: 80,
+                let (cap, message) = (n(2), n(3) as usize);
+                ss.insert(id, S { cap, message, win: n(4) as usize, start: n(5), longest: n(6), resend: n(7), lo: f[8].to_vec(), hi: f[9].to_vec(),
+                    low: disk("low", b'L', 80 + cap as usize * (2 + message)), high: disk("high", b'H', 80), recv: disk("recv", b'R', 80), end: 80,
                     e: 0, b: 0, r: 0, acc: VecDeque::new(), held: 0, hand: false, first: None, last: 0, times: VecDeque::new(), sum: 0, published: 0,
                     greeted: false, phase: Phase::Idle, wait: VecDeque::new(), datas: VecDeque::new(), takens: VecDeque::new() });
             }

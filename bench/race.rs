@@ -111,13 +111,13 @@ struct Register { disk: Vec<u8>, parity: u8 }
 impl Register {
     fn new(role: u8, size: usize, room: usize, second: u64) -> Register {
         let mut register = Register { disk: Vec::with_capacity(room), parity: 0 };
-        let mut front = [0; 80];
-        front[..6].copy_from_slice(&[b'N', b'P', b'D', b'1', role, 1]);
-        front[8..12].copy_from_slice(&1u32.to_be_bytes());
-        front[12..16].copy_from_slice(&(CAPACITY as u32).to_be_bytes());
-        front[16..20].copy_from_slice(&(MESSAGE as u32).to_be_bytes());
-        front[56..64].copy_from_slice(&second.to_be_bytes());
-        register.write(0, &front);
+        let mut header = [0; 80];
+        header[..6].copy_from_slice(&[b'N', b'P', b'D', b'1', role, 1]);
+        header[8..12].copy_from_slice(&1u32.to_be_bytes());
+        header[12..16].copy_from_slice(&(CAPACITY as u32).to_be_bytes());
+        header[16..20].copy_from_slice(&(MESSAGE as u32).to_be_bytes());
+        header[56..64].copy_from_slice(&second.to_be_bytes());
+        register.write(0, &header);
         register.disk.resize(size, 0);
         register
     }

@@ -75,12 +75,12 @@ impl Register {
     fn new(name: &str, role: u8, size: u64) -> io::Result<Register> {
         let file = OpenOptions::new().read(true).write(true).create(true).truncate(true).open(name)?;
         file.set_len(size)?;
-        let mut front = [0; 80];
-        front[..6].copy_from_slice(&[b'N', b'P', b'D', b'1', role, 1]);
-        front[8..12].copy_from_slice(&SESSION.to_be_bytes());
-        front[12..16].copy_from_slice(&(CAPACITY as u32).to_be_bytes());
-        front[16..20].copy_from_slice(&(MESSAGE as u32).to_be_bytes());
-        file.write_all_at(&front, 0)?;
+        let mut header = [0; 80];
+        header[..6].copy_from_slice(&[b'N', b'P', b'D', b'1', role, 1]);
+        header[8..12].copy_from_slice(&SESSION.to_be_bytes());
+        header[12..16].copy_from_slice(&(CAPACITY as u32).to_be_bytes());
+        header[16..20].copy_from_slice(&(MESSAGE as u32).to_be_bytes());
+        file.write_all_at(&header, 0)?;
         file.sync_data()?;
         Ok(Register { file, parity: 0 })
     }

@@ -306,7 +306,7 @@ DATA has the number 7 and a payload of two bytes, which is stored where messages
   end 1 7 - -
 
 Raw bytes go to the reader of the connection: 00ff begins no frame, so Low is refused, and nothing behind it is read. Behind the
-front of a DATA they are its payload.
+header of a DATA they are its payload.
 
   $ size=2
   $ comes 'told 1 5 0000000a fine full raw 00ff' 'told 1 5 0000000a fine full hello weather watch'

@@ -44,11 +44,11 @@ The reader of the output goes away after a line.
   low-session 1 8 64 4 20000 100000 500000 weather watch 0 0
   4
 
-The file of the output may have 1,024 bytes, so a front of the transcript is written.
+The file of the output may have 1,024 bytes, so a prefix of the transcript is written.
 
-  $ anew; netpump replay <long >whole; anew; limited netpump replay <long >front
+  $ anew; netpump replay <long >whole; anew; limited netpump replay <long >prefix
   [4]
-  $ head -c 1024 whole | cmp - front
+  $ head -c 1024 whole | cmp - prefix
 
 A folder stands in the place of standard input, so it can't be read.
 

@@ -1,6 +1,6 @@
 """The runs of trials/crash-images in which files go from folder to folder: Low's folder `out`, High's folder `in`, and the relay's disks.
 
-Of a folder's names an image has those that were synced and a beginning of the changes since then, in their order; of each file what
+Of a folder's names an image has those that were synced and a prefix of the changes since then, in their order; of each file what
 an image of a disk has. All is drawn by itself: each file, each folder, each disk. What an image stands for is read by this script's
 own reader, which goes by docs/formats.md and by the specs of file_messages, file_collector and file_dropper. It says what both ends
 would do with it, and whether each file would come just once. What a writer puts into Low's folder is synced before, and each of its
@@ -274,7 +274,7 @@ def step(state, message, number):
 
 
 class Messages:
-    """The messages of a session by their numbers, and what each beginning of them leads to."""
+    """The messages of a session by their numbers, and what each prefix of them leads to."""
 
     def __init__(self, messages=()):
         self.list, self.states = list(messages), [State(None, ())]

@@ -26,8 +26,8 @@ use Rattle.command_ends.specs.CommandEnds.{NamesFailed, end_line, end_status}
 use Rattle.commands.specs.Showing.{end_at}
 use Rattle.command_ends.specs.Tables.{HasRow, StopsAtFile}
 use Rattle.command_ends.specs.declared.command_end.CommandEnd.{CommandEnd}
-use Rattle.command_ends.specs.declared.command_end.CommandEnd.TheVariants.{Memory, Unread, BadLine, NoRow, Failed, Refused}
-use Rattle.command_ends.specs.declared.command_end.CommandEnd.TheVariants.{Full, Unwritten}
+use Rattle.command_ends.specs.declared.command_end.CommandEnd.TheVariants.{Memory, Unread, BadLine, NoRow, Failed}
+use Rattle.command_ends.specs.declared.command_end.CommandEnd.TheVariants.{Refused, Full, Unwritten}
 use Rattle.commands.specs.declared.wrap.SendEnd.{SendEnd}
 use Rattle.commands.specs.declared.wrap.SendEnd.TheVariants.{Sent, Differs, TooLong, Stopped}
 

@@ -120,17 +120,17 @@ no_key R Q key_faults.Failed failed short = inl (failed refl)
 no_key R Q key_faults.Short failed short = inr (short refl)
 
 -- what came of the row holds of the shelf as it was before the row was read
-module _ {D L S : Type 0} (t : DoorsTell D L) (looks : ℕ) (low_side high_side : SideTells D L) (d : DisksTell S) (written : Option (List ℕ)) (out_faults : ℕ)
+module _ {D L S : Type 0} (t : DoorsTell D L) (rounds : ℕ) (low_side high_side : SideTells D L) (d : DisksTell S) (written : Option (List ℕ)) (out_faults : ℕ)
     (keys : SourceTells) (f : FileTells) (fails : ℕ → Role → Type 0) (session : ℕ) (row : SessionRow) (end : CommandEnd) (mid : Option (List ℕ)) (mid_faults : ℕ) where
   pub serves_row : (before : Places) → d.before ≡ before → NamesFailed fails session end → GivesRow f session row → LeavesBut d.before d.after row.id
-      → ServesFor t looks low_side high_side d written out_faults keys row end mid mid_faults
-      → ServeComes t looks low_side high_side (record d { before = before }) written out_faults keys f fails session end mid mid_faults
+      → ServesFor t rounds low_side high_side d written out_faults keys row end mid mid_faults
+      → ServeComes t rounds low_side high_side (record d { before = before }) written out_faults keys f fails session end mid mid_faults
   serves_row before same named gives others h = (
     named,
     inr (
       row,
       gives,
       subst (λ (places : Places). LeavesBut places d.after row.id) same others,
-      subst (λ (places : Places). ServesFor t looks low_side high_side (record d { before = places }) written out_faults keys row end mid mid_faults) same h,
+      subst (λ (places : Places). ServesFor t rounds low_side high_side (record d { before = places }) written out_faults keys row end mid mid_faults) same h,
     ),
   )

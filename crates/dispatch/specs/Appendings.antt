@@ -11,8 +11,8 @@ use Rattle.peers.specs.declared.append.AppendEnd.{AppendEnd}
 use Rattle.peers.specs.declared.append.AppendEnd.TheVariants as appender
 use Rattle.command_ends.specs.Tables.{StopsAtFile, HasRow}
 use Rattle.command_ends.specs.declared.command_end.CommandEnd.{CommandEnd}
-use Rattle.command_ends.specs.declared.command_end.CommandEnd.TheVariants.{Done, Unread, Unwritten, BadLine, Ahead, Denied}
-use Rattle.command_ends.specs.declared.command_end.CommandEnd.TheVariants.{Unfinished}
+use Rattle.command_ends.specs.declared.command_end.CommandEnd.TheVariants.{Done, Unread, Unwritten, BadLine, Ahead}
+use Rattle.command_ends.specs.declared.command_end.CommandEnd.TheVariants.{Denied, Unfinished}
 
 -- how the call ends where the sender ended so: it acknowledged so many lines, and the next message has this number
 abbrev pub end_of_appender : AppendEnd → ℕ → ℕ → CommandEnd

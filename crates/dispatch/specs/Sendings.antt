@@ -10,8 +10,8 @@ use Rattle.peers.specs.declared.send.SendEnd.TheVariants as sender
 use Rattle.serving.specs.Doors.{LinksTell}
 use Rattle.command_ends.specs.Tables.{StopsAtFile, HasRow}
 use Rattle.command_ends.specs.declared.command_end.CommandEnd.{CommandEnd}
-use Rattle.command_ends.specs.declared.command_end.CommandEnd.TheVariants.{Done, Unread, Unwritten, BadLine, Unconnected}
-use Rattle.command_ends.specs.declared.command_end.CommandEnd.TheVariants.{Denied, Unfinished}
+use Rattle.command_ends.specs.declared.command_end.CommandEnd.TheVariants.{Done, Unread, Unwritten, BadLine}
+use Rattle.command_ends.specs.declared.command_end.CommandEnd.TheVariants.{Unconnected, Denied, Unfinished}
 
 -- how the call ends where the sender ended so
 abbrev pub end_of_sender : SendEnd → CommandEnd

@@ -109,7 +109,7 @@ GivesNoRow f session end = IsTableEnd end × (end ≡ Unread → Rose f.faults f
 -- `low_side` and `high_side` have what each side of the relay tells of the call. Of the sink the second value is that
 -- at the end. Ports, clocks, sink and row are spoken of over any shelf, and readings and files over one that tells
 -- them.
-module _ {D L S : Type 0} (t : DoorsTell D L) (looks : ℕ) (low_side high_side : SideTells D L) (d : DisksTell S)
+module _ {D L S : Type 0} (t : DoorsTell D L) (rounds : ℕ) (low_side high_side : SideTells D L) (d : DisksTell S)
     (written : Option (List ℕ)) (out_faults : ℕ) where
   -- nothing was opened, read off a clock, written or changed
   pub record IsIdle (now_written : Option (List ℕ)) : Type 0 where
@@ -132,7 +132,7 @@ module _ {D L S : Type 0} (t : DoorsTell D L) (looks : ℕ) (low_side high_side 
     pub high_found : d.tells → d.meaning.reading high ≡ reading_at d.before row.id roles.High
     pub high_left : d.tells → d.meaning.reading now_high ≡ reading_at d.after row.id roles.High
     -- the two workers
-    pub workers : IfEnded end (λ ends. BothServed t d.meaning row looks key low_side high_side written now_written
+    pub workers : IfEnded end (λ ends. BothServed t d.meaning row rounds key low_side high_side written now_written
         out_faults now_out_faults low high now_low now_high ends)
     -- the other ends, by their causes, and what they leave
     pub opens : OpensBy d.meaning row low high now_low now_high end

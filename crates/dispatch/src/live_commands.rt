@@ -153,10 +153,10 @@ where
         → AreWordsOf (map string_bytes words.now.items) (commands.Race seed count (record { items = times }))
         → EndsRace (IsRecordOf seed count times (K.reads low.old.clock) (K.reads low.new.clock)) (O.written out.old)
         (O.written out.new) result }
-    ensures serve { (table : List ℕ) (session looks : ℕ)
-        → AreWordsOf (map string_bytes words.now.items) (commands.Serve table session looks)
+    ensures serve { (table : List ℕ) (session rounds : ℕ)
+        → AreWordsOf (map string_bytes words.now.items) (commands.Serve table session rounds)
         → EndsLive (ServeComes (doors P.Door.port P.Door.did P.Door.gives (links P.Link.gives P.Link.sent
-        P.Link.faults)) looks
+        P.Link.faults)) rounds
         (side P.did P.faults K.reads low.old low.new) (side P.did P.faults K.reads high.old high.new)
         (disks S.told S.Disk.told shelf.old shelf.new) (O.written out.old) (O.faults out.old)
         (source Q.left Q.faults keys.old keys.new) (file S.told shelf.old shelf.new table)

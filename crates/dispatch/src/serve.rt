@@ -64,7 +64,7 @@ fn serve_row<
     rt: &T,
     alloc: Global,
     row: &SessionRow,
-    looks: u32,
+    rounds: u32,
     shelf: &mut S,
     low: &mut RelaySide<P, K>,
     high: &mut RelaySide<P, K>,
@@ -78,7 +78,7 @@ where
     P::Door: Send,
     requires lawful { IsLawfulRow row.now }
     ensures serves { ServesFor (doors P.Door.port P.Door.did P.Door.gives (links P.Link.gives P.Link.sent
-        P.Link.faults)) looks
+        P.Link.faults)) rounds
         (side P.did P.faults K.reads low.old low.new) (side P.did P.faults K.reads high.old high.new)
         (disks S.told S.Disk.told shelf.old shelf.new) (O.written out.old) (O.faults out.old)
         (source Q.left Q.faults keys.old keys.new) row.now result (O.written out.new) (O.faults out.new) }
@@ -103,13 +103,13 @@ where
         Err(not_taken) => return untaken(not_taken),
     };
     let served = serve_session(
-        rt, alloc, row, disks.low, disks.high, low, high, key, out, watch, looks,
+        rt, alloc, row, disks.low, disks.high, low, high, key, out, watch, rounds,
     );
     put_pair_back(shelf, row.id, served.low, served.high);
     end_of_session(&served.end)
 }
 
-/// Serves a session of the table: both workers make `looks` rounds, each at the door of its own port of the
+/// Serves a session of the table: both workers make so many rounds, each at the door of its own port of the
 /// row and by the clock of its own side, over the low and the high disk, with the words of the first 32 bytes
 /// of the keys. The record goes to the output. The answer is the status of the program. The doors go back to
 /// the ports and the disks to the shelf, and no disk is formatted.
@@ -126,7 +126,7 @@ pub fn serve_table<
     alloc: Global,
     table: &TableName,
     session: u32,
-    looks: u32,
+    rounds: u32,
     shelf: &mut S,
     low: &mut RelaySide<P, K>,
     high: &mut RelaySide<P, K>,
@@ -139,7 +139,7 @@ where
     P::Link: Send,
     P::Door: Send,
     ensures ends { EndsLive (ServeComes (doors P.Door.port P.Door.did P.Door.gives (links P.Link.gives P.Link.sent
-        P.Link.faults)) looks
+        P.Link.faults)) rounds
         (side P.did P.faults K.reads low.old low.new) (side P.did P.faults K.reads high.old high.new)
         (disks S.told S.Disk.told shelf.old shelf.new) (O.written out.old) (O.faults out.old)
         (source Q.left Q.faults keys.old keys.new) (file S.told shelf.old shelf.new table.now)
@@ -158,7 +158,7 @@ where
 {
     match row_in_file(alloc, shelf, table.as_str(), session) {
         Ok(row) => {
-            let end = serve_row(rt, alloc, &row, looks, shelf, low, high, keys, out, watch);
+            let end = serve_row(rt, alloc, &row, rounds, shelf, low, high, keys, out, watch);
             finish(session, end, out)
         }
         Err(end) => finish(session, end, out),

@@ -200,7 +200,7 @@ module _ (reader : Reading) (begun : Bool) (some : ℕ) (g g1 : List Looked → 
               | inl e ↦ inl (omega (arith, e, ap length none))
               | inr late ↦ inr (
                 omega (arith, some_is, late.0),
-                inr (record { before = was.heard; begun = late.1; rest = late.2; front = was.passed; last = f; all = ap (λ (l : List Looked). was.heard ++ l) late.3; just = was.just; first = late.5; open_is = late.4; passed_is = refl }, refl),
+                inr (record { before = was.heard; begun = late.1; rest = late.2; earlier = was.passed; last = f; all = ap (λ (l : List Looked). was.heard ++ l) late.3; just = was.just; first = late.5; open_is = late.4; passed_is = refl }, refl),
               )
             ];
           }

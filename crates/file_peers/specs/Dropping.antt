@@ -120,13 +120,13 @@ pub record IsLate (looks : List Looked) (passed : List Frame) : Type 0 where
   pub before : List Looked
   pub begun : List Looked
   pub rest : List Looked
-  pub front : List Frame
+  pub earlier : List Frame
   pub last : Frame
   pub all : looks ≡ before ++ (begun ++ rest)
-  pub just : HearsJust before front
+  pub just : HearsJust before earlier
   pub first : length (before ++ begun) ≡ 500
   pub open_is : bytes_in begun ≡ [] → ⊥
-  pub passed_is : passed ≡ front ++ last ∷ []
+  pub passed_is : passed ≡ earlier ++ last ∷ []
 
 -- Frames were heard, and then looks found nothing. There were 500 looks; or more, where a frame that had begun by then
 -- ended with the last of them.

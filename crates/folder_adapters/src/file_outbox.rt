@@ -25,8 +25,9 @@ use std::vec::IntoIter;
 ///
 /// A file waits once two seconds have passed since it was modified last, so what is written more slowly than
 /// that is to be moved in whole. The first that was modified goes first. A list of the folder serves for the
-/// first 256 files of it, as long as the next of them is as it was. The folder is locked as long as this lives. What is assumed of the machine: a new name takes the place of the old one in one step, what
-/// is synced is kept, and nobody else touches names that begin with a dot.
+/// first 256 files of it, as long as the next of them is as it was. The folder is locked as long as this lives.
+/// What is assumed of the machine: a new name takes the place of the old one in one step, what is synced is kept,
+/// and nobody else touches names that begin with a dot.
 #[derive(Drop)]
 pub struct FileOutbox<'a, R: Alloc> {
     files: &'a R,

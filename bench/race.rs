@@ -1,9 +1,9 @@
 // A plain, unproved Rust program that does `netpump race SEED COUNT TIMES`: what a user would write instead. For timing
 // only.
 //   rustc -O race.rs -o race; ./race 3 100000 50,700,20
-// Two threads pass messages through a bounded queue, which is written as crossbeam's ArrayQueue is, since no crate can be
-// fetched here. Two atomic words take the place of the cells. The disks are in memory and get the same bytes in the same
-// order, and the record is printed through a buffer of 8,192 bytes.
+// Two threads pass messages through a bounded queue, which is written as crossbeam's ArrayQueue is, since no crate can
+// be fetched here. Two atomic words take the place of the cells. The disks are in memory and get the same bytes in the
+// same order, and the record is printed through a buffer of 8,192 bytes.
 use std::cell::UnsafeCell;
 use std::collections::VecDeque;
 use std::fs::File;

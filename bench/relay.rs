@@ -1,13 +1,15 @@
-// A plain, unproved relay, which does what `netpump serve` does for one session: what a user would write instead; and a Low
-// and a High that drive either relay. For timing only.
-//   rustc --edition=2021 -O relay.rs -o relay; ./relay serve LOW_PORT HIGH_PORT & ./relay drive LOW_PORT HIGH_PORT COUNT
+// A plain, unproved relay, which does what `netpump serve` does for one session: what a user would write instead; and a
+// Low and a High that drive either relay. For timing only.
+//   rustc --edition=2021 -O relay.rs -o relay
+//   ./relay serve LOW_PORT HIGH_PORT & ./relay drive LOW_PORT HIGH_PORT COUNT
 // (with `bare` for `serve` it prints no record).
-// `serve` makes the files plain.low and plain.high in its folder and serves one connection at each port. It has two threads,
-// the low one with Low's port and file, the high one with High's, and a bounded channel and an average between. Frames, and the
-// writes and syncs of a message, are those of docs/formats.md; an acknowledgement waits for the average's time, at most LONGEST.
-// It prints the record of `netpump serve`, each line as it comes up. It repeats nothing and picks nothing up after a restart.
-// `drive` hands in COUNT messages of 64 bytes, each as soon as the one before it is acknowledged, and takes them at the other
-// port in a second thread. It prints the seconds from the first to the last acknowledgement.
+// `serve` makes the files plain.low and plain.high in its folder and serves one connection at each port. It has two
+// threads, the low one with Low's port and file, the high one with High's, and a bounded channel and an average
+// between. Frames, and the writes and syncs of a message, are those of docs/formats.md; an acknowledgement waits for
+// the average's time, at most LONGEST. It prints the record of `netpump serve`, each line as it comes up. It repeats
+// nothing and picks nothing up after a restart. `drive` hands in COUNT messages of 64 bytes, each as soon as the one
+// before it is acknowledged, and takes them at the other port in a second thread. It prints the seconds from the first
+// to the last acknowledgement.
 use std::collections::VecDeque;
 use std::error::Error;
 use std::fs::{File, OpenOptions};

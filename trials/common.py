@@ -1,6 +1,6 @@
-"""common: what the scripts of this folder share: finding the program and running it, a session table, free ports, the commands
-of a page, a reader of the three disks, processes that are started and ended, and a count of what was tried. It is a
-module: run by itself it does nothing.
+"""common: what the scripts of this folder share: finding the program and running it, a session table, free ports, the
+commands of a page, a reader of the three disks, processes that are started and ended, and a count of what was tried. It
+is a module: run by itself it does nothing.
 
 The reader goes by docs/formats.md, "Disks", and has nothing of netpump's own code."""
 import atexit
@@ -30,7 +30,8 @@ def word(place, otherwise=None):
 
 
 def give_up_after(seconds):
-    """Ends this script with status 1 when so many seconds have passed, or when it is told to end. What it started ends too."""
+    """Ends this script with status 1 when so many seconds have passed, or when it is told to end. What it started ends
+    too."""
     def too_long(*_):
         sys.exit(f"{os.path.basename(sys.argv[0])} gives up: it was not done after {seconds} seconds")
 
@@ -51,8 +52,8 @@ def till(holds, seconds):
 
 
 def find_program(path=None):
-    """The program of this path; where none is given, the one that the variable NETPUMP names, or the built one. Without a program
-    the script ends."""
+    """The program of this path; where none is given, the one that the variable NETPUMP names, or the built one. Without
+    a program the script ends."""
     program = os.path.realpath(path or os.environ.get("NETPUMP") or f"{TOP}/crates/netpump/out/netpump")
     if not os.access(program, os.X_OK):
         sys.exit(f"there is no program at {program}: examples/program builds it")
@@ -60,8 +61,8 @@ def find_program(path=None):
 
 
 def run(*words, **options):
-    """One run to its end, which has a minute where nothing else is said: its status and what it wrote, as text. What one
-    complains of that has to succeed, by check=True, is seen."""
+    """One run to its end, which has a minute where nothing else is said: its status and what it wrote, as text. What
+    one complains of that has to succeed, by check=True, is seen."""
     complaint = None if options.get("check") else subprocess.PIPE
     return subprocess.run(words, **{"stdout": subprocess.PIPE, "stderr": complaint, "text": True, "timeout": 60, **options})
 
@@ -114,8 +115,8 @@ def sections(page="docs/running.md"):
 
 
 def blocks(section):
-    """Each block of commands of a section, and each of what the commands before it print, in order: whether it is commands, and its
-    text."""
+    """Each block of commands of a section, and each of what the commands before it print, in order: whether it is
+    commands, and its text."""
     has_run = False
     for _, language, body in FENCE.findall(section):
         has_run = has_run or language == "sh"
@@ -279,7 +280,8 @@ atexit.register(lambda: end(*started))
 
 
 class Group:
-    """Processes by name, in one folder. Each is started again as often as it is wanted; what it prints is added to NAME.out."""
+    """Processes by name, in one folder. Each is started again as often as it is wanted; what it prints is added to
+    NAME.out."""
 
     def __init__(self, folder, words, inputs):
         self.folder, self.words, self.inputs, self.running = folder, words, inputs, {}
@@ -302,9 +304,9 @@ class Group:
         end(*self.running.values())
 
     def kill_in_turn(self, draw, kills, least, most, limit):
-        """Lets all run between two kills, for a random time, and kills one after the other in turn: so many in all, or until the
-        clock is at the limit. The relay, by the name serve, has a moment before the others start. Gives the turn and the name
-        of each that was killed."""
+        """Lets all run between two kills, for a random time, and kills one after the other in turn: so many in all, or
+        until the clock is at the limit. The relay, by the name serve, has a moment before the others start. Gives the
+        turn and the name of each that was killed."""
         names, turn = list(self.words), 0
         while kills > 0 and time.monotonic() < limit:
             for name in names:

@@ -1,4 +1,5 @@
-"""Disks for trials/crash-images: what strace saw of them, and what a crash may leave of them by docs/model.md, "Disks"."""
+"""Disks for trials/crash-images: what strace saw of them, and what a crash may leave of them by docs/model.md,
+"Disks"."""
 import collections
 import os
 import re

@@ -1,10 +1,11 @@
-"""The runs of trials/crash-images in which files go from folder to folder: Low's folder `out`, High's folder `in`, and the relay's disks.
+"""The runs of trials/crash-images in which files go from folder to folder: Low's folder `out`, High's folder `in`, and
+the relay's disks.
 
-Of a folder's names an image has those that were synced and a prefix of the changes since then, in their order; of each file what
-an image of a disk has. All is drawn by itself: each file, each folder, each disk. What an image stands for is read by this script's
-own reader, which goes by docs/formats.md and by the specs of file_messages, file_collector and file_dropper. It says what both ends
-would do with it, and whether each file would come just once. What a writer puts into Low's folder is synced before, and each of its
-changes behind itself; nobody takes a file away from High's."""
+Of a folder's names an image has those that were synced and a prefix of the changes since then, in their order; of each
+file what an image of a disk has. All is drawn by itself: each file, each folder, each disk. What an image stands for is
+read by this script's own reader, which goes by docs/formats.md and by the specs of file_messages, file_collector and
+file_dropper. It says what both ends would do with it, and whether each file would come just once. What a writer puts
+into Low's folder is synced before, and each of its changes behind itself; nobody takes a file away from High's."""
 import collections
 import hashlib
 import json
@@ -20,8 +21,8 @@ from crash_disks import PLACE, TEXT, Disk, Folder, Trace, text_in, torn, unescap
 from crash_runs import Case, recorded, run
 
 LOW, HIGH = "out", "in"
-# By the model a crash may leave any bytes of the mark of a new register, which is written last. Whether `collect` makes such a register
-# anew; otherwise it is to refuse it, until it is removed.
+# By the model a crash may leave any bytes of the mark of a new register, which is written last. Whether `collect` makes
+# such a register anew; otherwise it is to refuse it, until it is removed.
 MAKES_TORN = True
 # How many images had something.
 STATES = collections.Counter()
@@ -41,7 +42,8 @@ def digest_of(content):
 
 
 class FolderTrace(Trace):
-    """The events of such a run. Those on names are create, rename (with the new name), unlink, and undone where the call failed."""
+    """The events of such a run. Those on names are create, rename (with the new name), unlink, and undone where the
+    call failed."""
 
     def begin(self, number, call, rest):
         texts = [os.fsdecode(unescaped(text)) for text, _ in TEXT.findall(rest)]
@@ -250,7 +252,8 @@ class World:
 
 # A file that has begun: its name, its size and its bytes so far.
 Begun = collections.namedtuple("Begun", "name size content")
-# What some messages lead to: the file that has begun, if one has, and those that came, each with the number of its last message.
+# What some messages lead to: the file that has begun, if one has, and those that came, each with the number of its last
+# message.
 State = collections.namedtuple("State", "begun came")
 NAME = re.compile(rb"[A-Za-z0-9](?:[A-Za-z0-9 ._,+=@%()-]{0,126}[A-Za-z0-9_,+=@%()-])?")
 
@@ -304,7 +307,8 @@ class Wrong(Exception):
 
 # What a relay's disks hold: how many messages are accepted and removed, and the others.
 Relay = collections.namedtuple("Relay", "accepted removed live")
-# What High's folder holds as it is opened: how many messages are counted, in how many of them it was shown, and the file that has begun.
+# What High's folder holds as it is opened: how many messages are counted, in how many of them it was shown, and the
+# file that has begun.
 High = collections.namedtuple("High", "counted opened begun")
 MARK = re.compile(r"\.np-1-(?:(f)|(s)-(\d+)-(\d+)-(\d+)-([0-9a-f]{64})|(a)-(\d+))-(.+)")
 # A marked file: how far it is, the number of its first message, the message size, its size and SHA-256, and its name.
@@ -495,7 +499,8 @@ class Folders(Case):
         self.judge_files(left, state.came)
 
     def is_sent(self, mark, content, accepted, state):
-        """Whether the marked file was sent whole. Where its sending goes on, it has to go on behind what was accepted of it."""
+        """Whether the marked file was sent whole. Where its sending goes on, it has to go on behind what was accepted
+        of it."""
         if mark.stage != "sending":
             return False
         if not mark.start <= accepted <= mark.start + count_of(mark):
@@ -542,8 +547,8 @@ class Folders(Case):
         return is_torn(images.get(f"{HIGH}/{REGISTER}"))
 
     def is_shown(self, folder, images, draw):
-        """Whether `collect` makes of its folder what this script does, and, now and then, whether all files come where all three start
-        again."""
+        """Whether `collect` makes of its folder what this script does, and, now and then, whether all files come where
+        all three start again."""
         lay_folders(folder, images, list(self.put))
         write_file(f"{folder}/t.toml", self.table(self.row))
         before, is_refused = self.high_in(images), is_torn(images.get(f"{HIGH}/{REGISTER}")) and not MAKES_TORN
@@ -675,7 +680,8 @@ def is_over(folder):
 
 
 def change(player):
-    """Changes some bytes of a file of Low's folder, most often of the one that is sent, and syncs it. Says whether it did."""
+    """Changes some bytes of a file of Low's folder, most often of the one that is sent, and syncs it. Says whether it
+    did."""
     names = sorted(os.listdir(player.path(LOW)))
     if not names:
         return False

@@ -1,4 +1,5 @@
-"""The runs of trials/crash-images: how each finds its files, what is started and killed in it, and what its calls promise.
+"""The runs of trials/crash-images: how each finds its files, what is started and killed in it, and what its calls
+promise.
 
 A run is prepared, played under strace, and read off as a list of events."""
 import os
@@ -284,7 +285,8 @@ class Copied(Relay):
         return super().hear(event)
 
     def wrong(self, images):
-        """A disk is the program's own matter from its first sync on, and its name from the first promise of its process on."""
+        """A disk is the program's own matter from its first sync on, and its name from the first promise of its process
+        on."""
         accepted, received = self.promises[0].accepted, self.promises[0].received
         unpromised = {name for name, count in zip(self.names, (accepted, accepted, received)) if count == 0}
         foreign = {name for name in unpromised if name not in self.whole or images[name] is None}

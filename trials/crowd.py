@@ -1,8 +1,8 @@
-"""crowd: a crowd of hostile connections at one port of a relay, for trials/hostile, and the frames that they send. It is a module:
-run by itself it does nothing.
+"""crowd: a crowd of hostile connections at one port of a relay, for trials/hostile, and the frames that they send. It
+is a module: run by itself it does nothing.
 
-One thread serves all connections. What one of them does is its plan, a generator: it sends, and yields for how many seconds it
-waits for the next frame. It gets the frame, CLOSED, or None where nothing came in that time."""
+One thread serves all connections. What one of them does is its plan, a generator: it sends, and yields for how many
+seconds it waits for the next frame. It gets the frame, CLOSED, or None where nothing came in that time."""
 import collections
 import heapq
 import itertools
@@ -33,7 +33,8 @@ def every_kind(number):
 
 
 def first_frame(held):
-    """The first whole frame of these bytes, its kind, number and payload, and what is behind it. None where there is none."""
+    """The first whole frame of these bytes, its kind, number and payload, and what is behind it. None where there is
+    none."""
     if len(held) < 18:
         return None, held
     _, _, kind, _, number, length = struct.unpack(">2sBBIQH", held[:18])

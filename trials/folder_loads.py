@@ -1,5 +1,5 @@
-"""folder_loads: the loads of trials/folders: many files through one session, messages that no `drop` sent, how fast a file goes, and how
-much memory that takes. It is a module: run by itself it does nothing."""
+"""folder_loads: the loads of trials/folders: many files through one session, messages that no `drop` sent, how fast a
+file goes, and how much memory that takes. It is a module: run by itself it does nothing."""
 import hashlib
 import os
 import random
@@ -52,7 +52,8 @@ def run_through(group, limit):
 
 
 class Feed:
-    """Small files, each with its number as its bytes and every seventh empty, and one of 20 MB in their middle. All lie there at once."""
+    """Small files, each with its number as its bytes and every seventh empty, and one of 20 MB in their middle. All lie
+    there at once."""
 
     LARGE = 20_000_000
 

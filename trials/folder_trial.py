@@ -1,6 +1,6 @@
-"""folder_trial: what trials/folders shares between its parts: a session whose files go from folder to folder, a writer that puts files
-into Low's folder, a reader that takes them away from High's, and what has to hold of the two lists at the end. It is a module: run by
-itself it does nothing."""
+"""folder_trial: what trials/folders shares between its parts: a session whose files go from folder to folder, a writer
+that puts files into Low's folder, a reader that takes them away from High's, and what has to hold of the two lists at
+the end. It is a module: run by itself it does nothing."""
 import collections
 import hashlib
 import os
@@ -36,7 +36,8 @@ def make(program, folder, **values):
 
 
 def counts(folder):
-    """How many messages are accepted, how many of them High's folder counts, and its bytes of a file that has begun, and one."""
+    """How many messages are accepted, how many of them High's folder counts, and its bytes of a file that has begun,
+    and one."""
     accepted = common.register(common.read(f"{folder}/1.low"))[0]
     path = f"{folder}/{HIGH}/.1.files"
     return accepted, *(common.register(common.read(path)) if os.path.exists(path) and os.path.getsize(path) == 220 else (0, 0))
@@ -52,7 +53,8 @@ def is_done(folder):
 
 
 class File:
-    """A file that was put into Low's folder: its name, when it was there, and all that was in it at some time, the newest last."""
+    """A file that was put into Low's folder: its name, when it was there, and all that was in it at some time, the
+    newest last."""
 
     def __init__(self, name, way, content):
         self.name, self.way, self.content, self.versions = name, way, bytearray(content), []
@@ -68,8 +70,8 @@ class File:
 
 
 class Writer(threading.Thread):
-    """Puts files into Low's folder until it is told to stop, so that at most MOST wait there. Each is 3 seconds old but a few, and
-    each that is not changed later has an older time than the one behind it."""
+    """Puts files into Low's folder until it is told to stop, so that at most MOST wait there. Each is 3 seconds old but
+    a few, and each that is not changed later has an older time than the one behind it."""
 
     MOST = 8
 
@@ -129,7 +131,8 @@ class Writer(threading.Thread):
             os.close(handle)
 
     def write(self, file):
-        """Writes it where it is, a part at a time. Only the whole counts, unless this took so long that a part may have been sent."""
+        """Writes it where it is, a part at a time. Only the whole counts, unless this took so long that a part may have
+        been sent."""
         begun, whole = time.monotonic(), file.versions.pop()
         handle = os.open(self.path(file.name), os.O_RDWR | os.O_CREAT | os.O_EXCL)
         cut, parts = 0, self.draw.randint(1, 4)
@@ -150,8 +153,8 @@ class Writer(threading.Thread):
         return any(name.startswith(".np-") and name.endswith(f"-{file.name}") for name in os.listdir(f"{self.folder}/{LOW}"))
 
     def change_some(self):
-        """Changes one of the open files, now and then, most often while it is sent: each time some bytes of a page become new ones, or
-        come, or the last ones go."""
+        """Changes one of the open files, now and then, most often while it is sent: each time some bytes of a page
+        become new ones, or come, or the last ones go."""
         if not self.open or self.goes_on and self.draw.random() < 0.4:
             return
         file = self.draw.choice(self.open)
@@ -182,7 +185,8 @@ class Writer(threading.Thread):
 
 
 class Reader(threading.Thread):
-    """Takes files away from High's folder. Some lie there for a while, so that their names are in use when they come again."""
+    """Takes files away from High's folder. Some lie there for a while, so that their names are in use when they come
+    again."""
 
     def __init__(self, folder, seed):
         super().__init__(daemon=True)
@@ -248,7 +252,8 @@ class Verdict:
         return places
 
     def order(self):
-        """How many came before one that was put at most half a second earlier: a list of a folder may lack a file that comes meanwhile."""
+        """How many came before one that was put at most half a second earlier: a list of a folder may lack a file that
+        comes meanwhile."""
         greatest, overtaken = None, 0
         for place in self.places:
             if place is None or not self.files[place].is_ordered():

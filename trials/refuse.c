@@ -1,5 +1,5 @@
-// Refuses one request for memory. LD_PRELOAD it: the request with the number REFUSE, from 1, gets none; with no number all
-// are granted. How many there were is written over the file that REFUSE_COUNT names, as each is made.
+// Refuses one request for memory. LD_PRELOAD it: the request with the number REFUSE, from 1, gets none; with no number
+// all are granted. How many there were is written over the file that REFUSE_COUNT names, as each is made.
 #define _GNU_SOURCE
 #include <errno.h>
 #include <fcntl.h>

@@ -1,5 +1,5 @@
-// Makes one call of a program short, or interrupts it behind its work. LD_PRELOAD it. SHORTEN is the name of a call, a number from
-// 1, and a way, as in "read 2 one":
+// Makes one call of a program short, or interrupts it behind its work. LD_PRELOAD it. SHORTEN is the name of a call, a
+// number from 1, and a way, as in "read 2 one":
 //
 //   one          the call moves one byte, where it was asked for more
 //   most         the call moves one byte less than it was asked for
@@ -39,7 +39,8 @@ static int is_next(const char *name) {
     return 1;
 }
 
-// How many bytes the call is to move, where it was asked for so many. Calls for one byte can't be short, and are not counted.
+// How many bytes the call is to move, where it was asked for so many. Calls for one byte can't be short, and are not
+// counted.
 static size_t moved(const char *name, size_t asked) {
     if (asked < 2 || !is_next(name)) return asked;
     return strcmp(way, "most") ? 1 : asked - 1;

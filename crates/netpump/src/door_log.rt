@@ -1,11 +1,11 @@
 //! The log of a relay: what it says on standard error while it serves, each line with its moment.
 
-mod reasons;
+mod causes;
 mod timing;
 
 use adapters::{is_writable, now};
+use causes::{EndCause, HighCause, LowCause};
 use pump_frame::SessionRow;
-use reasons::{EndReason, HighReason, LowReason};
 use relay_threads::{HighWhy, LowWhy, RoundsEnd, Watch};
 use std::fmt::Display;
 use timing::{Fullness, Sparing, Stamp};
@@ -80,7 +80,7 @@ impl<'a> DoorLog<'a> {
             ));
             return;
         }
-        let why = EndReason {
+        let why = EndCause {
             end,
             session: *session,
             role: side,
@@ -161,7 +161,7 @@ impl Watch for DoorLog<'_> {
             match why {
                 LowWhy::Gone => self.say_of_peer(&door, &"left"),
                 LowWhy::Bad | LowWhy::LinkFailed => {
-                    self.say_of_peer(&door, &format_args!("was dropped: {}", LowReason(why)));
+                    self.say_of_peer(&door, &format_args!("was dropped: {}", LowCause(why)));
                 }
                 _ => {}
             }
@@ -191,7 +191,7 @@ impl Watch for DoorLog<'_> {
             match why {
                 HighWhy::Gone => self.say_of_peer(&door, &"left"),
                 HighWhy::Looks | HighWhy::Stopped | HighWhy::Device { .. } => {}
-                _ => self.say_of_peer(&door, &format_args!("was dropped: {}", HighReason(why))),
+                _ => self.say_of_peer(&door, &format_args!("was dropped: {}", HighCause(why))),
             }
         }
     }

@@ -35,15 +35,15 @@ use wrapping::explain_wrap;
 /// What is known of a file that stopped a command with status 3 or 7, or of a port that did with status 9.
 #[derive(Clone, Copy)]
 pub enum Trouble {
-    /// The table's file could not be read, for this reason.
+    /// The table's file could not be read, by this cause.
     Unread(ErrorKind),
-    /// A call of the disk's file failed, for this reason.
+    /// A call of the disk's file failed, by this cause.
     Failed(ErrorKind),
     /// The ports of the low side failed.
     LowPort,
     /// Those of the high side did.
     HighPort,
-    /// A call on the folder failed, for this reason.
+    /// A call on the folder failed, by this cause.
     Folder(ErrorKind),
     /// No file failed: a line of the script told so, or something else was read.
     Told,

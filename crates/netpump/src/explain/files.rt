@@ -8,7 +8,7 @@ use std::io::{self, ErrorKind, Read};
 const MOST: u64 = 65_536;
 
 /// Why a file could not be used, in the words of a sentence.
-fn reason(why: ErrorKind) -> &'static str {
+fn cause(why: ErrorKind) -> &'static str {
     match why {
         ErrorKind::NotFound => "there is no such file",
         ErrorKind::PermissionDenied => "this user may not use it so",
@@ -27,9 +27,9 @@ pub fn explain_table_file(rt: &HostRuntime, table: &str, why: ErrorKind) -> io::
             pipe; name the file of the table itself"
         ),
         _ => {
-            let reason = reason(why);
+            let cause = cause(why);
             eprintln!(rt;
-                "netpump: the file {table} in this folder could not be read: {reason}; see that it is there and that \
+                "netpump: the file {table} in this folder could not be read: {cause}; see that it is there and that \
                 it is yours to read, and try again"
             )
         }
@@ -58,10 +58,10 @@ pub fn explain_disk_file(
             device or a pipe; move it away, and put the disk of this name there"
         ),
         _ => {
-            let reason = reason(why);
+            let cause = cause(why);
             eprintln!(rt;
                 "netpump: the file {session}.{role} in this folder could not be made, read, written or synced: \
-                {reason}; {else_do}"
+                {cause}; {else_do}"
             )
         }
     }
@@ -80,9 +80,9 @@ pub fn explain_unread_disk(
             device or a pipe; run this in the folder of the disks"
         ),
         _ => {
-            let reason = reason(why);
+            let cause = cause(why);
             eprintln!(rt;
-                "netpump: the file {session}.{role} in this folder could not be read: {reason}; run this in the \
+                "netpump: the file {session}.{role} in this folder could not be read: {cause}; run this in the \
                 folder of the disks, as a user that may read them"
             )
         }

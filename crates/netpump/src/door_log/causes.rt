@@ -5,9 +5,9 @@ use std::fmt::{Display, Error, Formatter, Write};
 
 /// Why the low worker dropped a peer.
 #[derive(Clone, Copy)]
-pub struct LowReason(pub LowWhy);
+pub struct LowCause(pub LowWhy);
 
-impl Display for LowReason {
+impl Display for LowCause {
     fn fmt<W: Write>(&self, f: &mut Formatter<W>) -> Result<(), Error> {
         f.write_str(match self.0 {
             LowWhy::Bad =>
@@ -21,9 +21,9 @@ impl Display for LowReason {
 
 /// Why the high worker dropped a peer.
 #[derive(Clone, Copy)]
-pub struct HighReason(pub HighWhy);
+pub struct HighCause(pub HighWhy);
 
-impl Display for HighReason {
+impl Display for HighCause {
     fn fmt<W: Write>(&self, f: &mut Formatter<W>) -> Result<(), Error> {
         match self.0 {
             HighWhy::Bad => f.write_str(
@@ -52,13 +52,13 @@ impl Display for HighReason {
 
 /// Why a worker ended before its last round.
 #[derive(Clone, Copy)]
-pub struct EndReason<'a> {
+pub struct EndCause<'a> {
     pub end: RoundsEnd,
     pub session: u32,
     pub role: &'a str,
 }
 
-impl Display for EndReason<'_> {
+impl Display for EndCause<'_> {
     fn fmt<W: Write>(&self, f: &mut Formatter<W>) -> Result<(), Error> {
         match self.end {
             RoundsEnd::Device { .. } => write!(

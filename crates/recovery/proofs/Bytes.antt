@@ -1,10 +1,10 @@
 -- The bytes of new disks.
-use Rattle.std.proofs.Common.{◌≡◌, ℕ, zero, suc, ◌+◌, ◌-◌, ◌<◌, ◌≤◌, List, [], ◌∷◌, ◌++◌, length, get_or, take, drop, refl, sym, ◌∙◌, ap, subst, arith, length-append, length-drop}
+use Rattle.std.proofs.Common.{◌≡◌, ℕ, zero, suc, ◌+◌, ◌-◌, ◌<◌, ◌≤◌, List, [], ◌∷◌, ◌++◌, length, get_or, take, drop, refl, sym, ◌∙◌, ap, arith, length-append}
 use Rattle.std.proofs.lemmas.List.{append-nil, drop-take, drop-append-le, drop_all, length-take, take_all}
 use Rattle.disk_model.specs.Disk.{IsWritten}
 use Rattle.disk_model.specs.declared.name.Role.TheVariants.{Low, Recv}
 use Rattle.pump_frame.specs.declared.row.SessionRow.{SessionRow}
-use Rattle.stable_buffer.specs.Format.{bare_bytes, size_of}
+use Rattle.stable_buffer.specs.Format.{bare_bytes}
 use Rattle.stable_buffer.specs.Log.{log_of}
 use Rattle.stable_buffer.specs.Making.{marked}
 use Rattle.stable_buffer.specs.Register.{value_of}

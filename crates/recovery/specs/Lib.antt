@@ -1,5 +1,6 @@
 pub mod Agreement
 pub mod Calls
+pub mod Comparisons
 pub mod Deals
 pub mod Faults
 pub mod Fillings

@@ -1,15 +1,11 @@
 // Low's disk against the receiver's.
-ghost use Rattle.std.specs.Prelude.{◌≡◌, ◌⊎◌, ◌+◌, ◌<◌, ◌≤◌, ℕ, [], true, false, not, List, slice_index_or, IfOk, OnOk};
-ghost use Rattle.std.specs.Prelude.{IfErr};
-ghost use Rattle.disk_model.specs.Disk.{Moves, Same};
+ghost use Rattle.std.specs.Prelude.{◌≡◌, ◌⊎◌, ◌+◌, ◌<◌, ◌≤◌, ℕ, true, false, List, IfOk, OnOk, IfErr};
 ghost use Rattle.stable_buffer.specs.Low.{IsLowReady, low_disk, low_row, low_count, low_is_open};
-ghost use Rattle.stable_buffer.specs.Stands.{InSlot};
 ghost use Rattle.stable_buffer.specs.Log.{RecvStands};
-ghost use Rattle.high_receiver.specs.Receiving.{IsRecvReady, recv_disk, recv_row, recv_size, recv_count, recv_end};
-ghost use Rattle.high_receiver.specs.Receiving.{recv_is_open};
+ghost use Rattle.high_receiver.specs.Receiving.{IsRecvReady, recv_disk, recv_row, recv_count, recv_is_open};
 ghost use Rattle.recovery.specs.Agreement.{SlotsAgree, Disagrees};
-ghost use Rattle.recovery.specs.Calls.{Calls, CallsReceiver, GivesSlot, is_device};
-ghost use Rattle.recovery.specs.declared.why.Why.TheVariants.{Device};
+ghost use Rattle.recovery.specs.Calls.{Calls, GivesSlot, is_device};
+ghost use Rattle.recovery.specs.Comparisons.{TellsSame, TellsShut, CallsBoth, LeavesLow, LeavesReceiver};
 
 use crate::Why;
 use disk_model::Disk;
@@ -31,33 +27,16 @@ fn is_same<D: Disk>(low: &mut LowStore<D>, n: u64, receiver: &mut Receiver<D>) -
     requires live { (n < low_count low.old) × (low_count low.old ≤ n + (low_row low.old).capacity) }
     requires taken { n < recv_count receiver.old }
 
-    ensures same { IfOk result (λ b. b ≡ true → D.told.tells → (messages : List (List ℕ))
-        → RecvStands (recv_row receiver.old) messages (D.told.reading (recv_disk receiver.old))
-        → InSlot (low_row low.old) n (slice_index_or messages n []) (D.told.reading (low_disk low.old))) }
-    ensures other { IfOk result (λ b. b ≡ false → D.told.tells → (messages : List (List ℕ))
-        → RecvStands (recv_row receiver.old) messages (D.told.reading (recv_disk receiver.old))
-        → ¬ (InSlot (low_row low.old) n (slice_index_or messages n []) (D.told.reading (low_disk low.old)))) }
+    ensures same { IfOk result (λ b. TellsSame D.told low.old n receiver.old b) }
     ensures device { IfErr result (λ why. is_device why ≡ true) }
-    ensures device_low { IfErr result (λ why. low_is_open low.new ≡ false
-        → why ≡ Device (D.told.count (low_disk low.new))) }
-    ensures device_receiver { IfErr result (λ why. recv_is_open receiver.new ≡ false
-        → why ≡ Device (D.told.count (recv_disk receiver.new))) }
-    ensures shut { IfErr result (λ why. (low_is_open low.new ≡ false) ⊎ (recv_is_open receiver.new ≡ false)) }
-    ensures one { IfErr result (λ why. low_is_open low.new ≡ false → recv_is_open receiver.new ≡ true) }
-    ensures calls_low { Calls D.told (low_disk low.old) (low_disk low.new) (not (low_is_open low.new)) }
-    ensures calls_receiver { CallsReceiver D.told (low_row low.old) n (low_disk low.old) receiver.old receiver.new }
+    ensures told { IfErr result (λ why. TellsShut D.told low.new receiver.new why) }
+    ensures calls { CallsBoth D.told n low.old low.new receiver.old receiver.new }
     ensures called { IfOk result (λ b. b ≡ true → Calls D.told (recv_disk receiver.old) (recv_disk receiver.new) false
         × (D.told.tells_plan → GivesSlot D.told (low_row low.old) n (low_disk low.old))) }
 
-    ensures ready_low { low_is_open low.new ≡ true → IsLowReady D.told low.new }
-    ensures ready_receiver { recv_is_open receiver.new ≡ true → IsRecvReady D.told receiver.new }
     ensures open { OnOk result ((low_is_open low.new ≡ true) × (recv_is_open receiver.new ≡ true)) }
-    ensures low { (low_count low.new ≡ low_count low.old) × (low_row low.new ≡ low_row low.old) }
-    ensures receiver { (recv_count receiver.new ≡ recv_count receiver.old)
-        × (recv_end receiver.new ≡ recv_end receiver.old)
-        × (recv_row receiver.new ≡ recv_row receiver.old) × (recv_size receiver.new ≡ recv_size receiver.old) }
-    ensures moves_low { Moves D.told Same (low_disk low.old) (low_disk low.new) }
-    ensures moves_receiver { Moves D.told Same (recv_disk receiver.old) (recv_disk receiver.new) }
+    ensures low { LeavesLow D.told low.old low.new }
+    ensures receiver { LeavesReceiver D.told receiver.old receiver.new }
 {
     let mut stored = Payload::default();
     let mut taken = Payload::default();
@@ -103,33 +82,17 @@ pub fn agree<D: Disk>(
         → RecvStands (recv_row receiver.old) messages (D.told.reading (recv_disk receiver.old))
         → Disagrees (low_row low.old) removed (recv_count receiver.old) (low_count low.old) messages
         (D.told.reading (low_disk low.old)) why) }
-    ensures device_low { IfErr result (λ why. is_device why ≡ true → low_is_open low.new ≡ false
-        → why ≡ Device (D.told.count (low_disk low.new))) }
-    ensures device_receiver { IfErr result (λ why. is_device why ≡ true → recv_is_open receiver.new ≡ false
-        → why ≡ Device (D.told.count (recv_disk receiver.new))) }
-    ensures shut { IfErr result (λ why. is_device why ≡ true
-        → (low_is_open low.new ≡ false) ⊎ (recv_is_open receiver.new ≡ false)) }
-    ensures one { IfErr result (λ why. low_is_open low.new ≡ false → recv_is_open receiver.new ≡ true) }
+    ensures told { IfErr result (λ why. TellsShut D.told low.new receiver.new why) }
 
     // The disks are called where there is a message to compare, and else are as they were.
     ensures idle { (recv_count receiver.old ≤ removed) ⊎ (low_count low.old < recv_count receiver.old)
         → (low.new ≡ low.old) × (receiver.new ≡ receiver.old) }
-    ensures calls_low { removed < recv_count receiver.old → recv_count receiver.old ≤ low_count low.old
-        → Calls D.told (low_disk low.old) (low_disk low.new) (not (low_is_open low.new)) }
-    ensures calls_receiver { removed < recv_count receiver.old → recv_count receiver.old ≤ low_count low.old
-        → CallsReceiver D.told (low_row low.old) removed (low_disk low.old) receiver.old receiver.new }
+    ensures calls { removed < recv_count receiver.old → recv_count receiver.old ≤ low_count low.old
+        → CallsBoth D.told removed low.old low.new receiver.old receiver.new }
 
-    ensures ready_low { low_is_open low.new ≡ true → IsLowReady D.told low.new }
-    ensures ready_receiver { recv_is_open receiver.new ≡ true → IsRecvReady D.told receiver.new }
     ensures open { OnOk result ((low_is_open low.new ≡ true) × (recv_is_open receiver.new ≡ true)) }
-    ensures open_err { IfErr result (λ why. is_device why ≡ false
-        → (low_is_open low.new ≡ true) × (recv_is_open receiver.new ≡ true)) }
-    ensures low { (low_count low.new ≡ low_count low.old) × (low_row low.new ≡ low_row low.old) }
-    ensures receiver { (recv_count receiver.new ≡ recv_count receiver.old)
-        × (recv_end receiver.new ≡ recv_end receiver.old)
-        × (recv_row receiver.new ≡ recv_row receiver.old) × (recv_size receiver.new ≡ recv_size receiver.old) }
-    ensures moves_low { Moves D.told Same (low_disk low.old) (low_disk low.new) }
-    ensures moves_receiver { Moves D.told Same (recv_disk receiver.old) (recv_disk receiver.new) }
+    ensures low { LeavesLow D.told low.old low.new }
+    ensures receiver { LeavesReceiver D.told receiver.old receiver.new }
 {
     let (taken, next) = (receiver.count(), low.accepted());
     if taken < removed {

@@ -15,21 +15,30 @@ returns-then-taken-removed g c =
     record {
       fine = tt;
       exact = λ nd told ms s. (c.count-taken.ensures, inl (omega (arith, c.count-taken.ensures, c.if-taken-removed.true), refl));
-      device_low = λ is. elim (false≢true is) [ ];
-      device_receiver = λ is. elim (false≢true is) [ ];
-      shut = λ is. elim (false≢true is) [ ];
-      one = λ _. c.requires.receiver.is_open;
+      told = record {
+        low_faults = λ is. elim (false≢true is) [ ];
+        receiver_faults = λ is. elim (false≢true is) [ ];
+        shut = λ is. elim (false≢true is) [ ];
+        one = λ _. c.requires.receiver.is_open;
+        both = λ _. (c.requires.low.ready.is_open, c.requires.receiver.is_open);
+      };
       idle = λ _. (refl, refl);
-      calls_low = λ less within. let no : ⊥ = omega (arith, c.count-taken.ensures, c.if-taken-removed.true, less, within) in elim no [ ];
-      calls_receiver = λ less within. let no : ⊥ = omega (arith, c.count-taken.ensures, c.if-taken-removed.true, less, within) in elim no [ ];
-      ready_low = λ _. c.requires.low;
-      ready_receiver = λ _. c.requires.receiver;
+      calls = λ less within. let no : ⊥ = omega (arith, c.count-taken.ensures, c.if-taken-removed.true, less, within) in elim no [ ];
       «open» = tt;
-      open_err = λ _. (c.requires.low.ready.is_open, c.requires.receiver.is_open);
-      low = (refl, refl);
-      receiver = (refl, refl, refl, refl);
-      moves_low = same _;
-      moves_receiver = same _;
+      low = record {
+        ready = λ _. c.requires.low;
+        count = refl;
+        row = refl;
+        moves = same _;
+      };
+      receiver = record {
+        ready = λ _. c.requires.receiver;
+        count = refl;
+        end = refl;
+        row = refl;
+        size = refl;
+        moves = same _;
+      };
     }
 
 pub returns-then-taken-next : goal.returns-then-taken-next
@@ -38,21 +47,30 @@ returns-then-taken-next g c =
     record {
       fine = tt;
       exact = λ nd told ms s. (c.count-taken.ensures, inr (omega (arith, c.count-taken.ensures, c.if-taken-removed.false), omega (arith, c.count-taken.ensures, c.accepted-next.ensures, c.if-taken-next.true), c.accepted-next.ensures));
-      device_low = λ is. elim (false≢true is) [ ];
-      device_receiver = λ is. elim (false≢true is) [ ];
-      shut = λ is. elim (false≢true is) [ ];
-      one = λ _. c.requires.receiver.is_open;
+      told = record {
+        low_faults = λ is. elim (false≢true is) [ ];
+        receiver_faults = λ is. elim (false≢true is) [ ];
+        shut = λ is. elim (false≢true is) [ ];
+        one = λ _. c.requires.receiver.is_open;
+        both = λ _. (c.requires.low.ready.is_open, c.requires.receiver.is_open);
+      };
       idle = λ _. (refl, refl);
-      calls_low = λ less within. let no : ⊥ = omega (arith, c.count-taken.ensures, c.accepted-next.ensures, c.if-taken-next.true, less, within) in elim no [ ];
-      calls_receiver = λ less within. let no : ⊥ = omega (arith, c.count-taken.ensures, c.accepted-next.ensures, c.if-taken-next.true, less, within) in elim no [ ];
-      ready_low = λ _. c.requires.low;
-      ready_receiver = λ _. c.requires.receiver;
+      calls = λ less within. let no : ⊥ = omega (arith, c.count-taken.ensures, c.accepted-next.ensures, c.if-taken-next.true, less, within) in elim no [ ];
       «open» = tt;
-      open_err = λ _. (c.requires.low.ready.is_open, c.requires.receiver.is_open);
-      low = (refl, refl);
-      receiver = (refl, refl, refl, refl);
-      moves_low = same _;
-      moves_receiver = same _;
+      low = record {
+        ready = λ _. c.requires.low;
+        count = refl;
+        row = refl;
+        moves = same _;
+      };
+      receiver = record {
+        ready = λ _. c.requires.receiver;
+        count = refl;
+        end = refl;
+        row = refl;
+        size = refl;
+        moves = same _;
+      };
     }
 
 pub returns-in-Ok-false : goal.returns-in-Ok-false
@@ -71,27 +89,39 @@ returns-in-Ok-false g c =
             i.from,
             omega (arith, c.count-taken.ensures, c.loop-n-test.true),
             i.same told ms s,
-            (λ has. c.in-Ok-false.ensures.other c.in-Ok-false.field-0-test told ms now (at_same (λ w d. InSlot w c.loop-n.n (get_or ms c.loop-n.n []) d) _ _ _ _ i.low_is.1 (i.moves_low.reads told) has)),
+            (λ has. c.in-Ok-false.ensures.same.other c.in-Ok-false.field-0-test told ms now (at_same (λ w d. InSlot w c.loop-n.n (get_or ms c.loop-n.n []) d) _ _ _ _ i.low_is.1 (i.moves_low.reads told) has)),
           );
-      device_low = λ is. elim (false≢true is) [ ];
-      device_receiver = λ is. elim (false≢true is) [ ];
-      shut = λ is. elim (false≢true is) [ ];
-      one = λ _. c.in-Ok-false.ensures.open.1;
+      told = record {
+        low_faults = λ is. elim (false≢true is) [ ];
+        receiver_faults = λ is. elim (false≢true is) [ ];
+        shut = λ is. elim (false≢true is) [ ];
+        one = λ _. c.in-Ok-false.ensures.open.1;
+        both = λ _. c.in-Ok-false.ensures.open;
+      };
       idle = λ none. absurd (elim none [
         | inl few ↦ omega (arith, few, i.from, c.count-taken.ensures, c.loop-n-test.true)
         | inr many ↦ omega (arith, many, c.count-taken.ensures, c.accepted-next.ensures, c.if-taken-next.false)
       ]);
-      calls_low = λ less within. low_called m c.args.removed c.loop-n.n low c.loop-n.low receiver c.loop-n.receiver i.from i.first c.is_same.new.low.register.disk (not c.is_same.new.low.register.is_open) i.calls_low e.calls_low;
-      calls_receiver = λ less within.
-          receiver_called m c.args.removed c.loop-n.n low c.loop-n.low receiver c.loop-n.receiver i.from i.first c.is_same.new.receiver i.calls_receiver i.ready_receiver.is_open e.calls_receiver;
-      ready_low = e.ready_low;
-      ready_receiver = e.ready_receiver;
+      calls = λ less within. record {
+        low_called = low_called m c.args.removed c.loop-n.n low c.loop-n.low receiver c.loop-n.receiver i.from i.first c.is_same.new.low.register.disk (not c.is_same.new.low.register.is_open) i.calls_low e.calls.low_called;
+        receiver_called =
+            receiver_called m c.args.removed c.loop-n.n low c.loop-n.low receiver c.loop-n.receiver i.from i.first c.is_same.new.receiver i.calls_receiver i.ready_receiver.is_open e.calls.receiver_called;
+      };
       «open» = tt;
-      open_err = λ _. c.in-Ok-false.ensures.open;
-      low = (e.low.0 ∙ i.low_is.0, e.low.1 ∙ i.low_is.1);
-      receiver = (e.receiver.0 ∙ i.receiver_is.0, e.receiver.1 ∙ i.receiver_is.1, e.receiver.2 ∙ i.receiver_is.2, e.receiver.3 ∙ i.receiver_is.3);
-      moves_low = goes_on_same m Same _ _ _ i.moves_low e.moves_low;
-      moves_receiver = goes_on_same m Same _ _ _ i.moves_receiver e.moves_receiver;
+      low = record {
+        ready = e.low.ready;
+        count = e.low.count ∙ i.low_is.0;
+        row = e.low.row ∙ i.low_is.1;
+        moves = goes_on_same m Same _ _ _ i.moves_low e.low.moves;
+      };
+      receiver = record {
+        ready = e.receiver.ready;
+        count = e.receiver.count ∙ i.receiver_is.0;
+        end = e.receiver.end ∙ i.receiver_is.1;
+        row = e.receiver.row ∙ i.receiver_is.2;
+        size = e.receiver.size ∙ i.receiver_is.3;
+        moves = goes_on_same m Same _ _ _ i.moves_receiver e.receiver.moves;
+      };
     }
 
 pub returns-in-Err : goal.returns-in-Err
@@ -104,25 +134,31 @@ returns-in-Err g c =
     record {
       fine = tt;
       exact = λ nd. absurd (false≢true (sym nd ∙ c.in-Err.ensures.device));
-      device_low = λ _. c.in-Err.ensures.device_low;
-      device_receiver = λ _. c.in-Err.ensures.device_receiver;
-      shut = λ _. c.in-Err.ensures.shut;
-      one = c.in-Err.ensures.one;
+      told = c.in-Err.ensures.told;
       idle = λ none. absurd (elim none [
         | inl few ↦ omega (arith, few, i.from, c.count-taken.ensures, c.loop-n-test.true)
         | inr many ↦ omega (arith, many, c.count-taken.ensures, c.accepted-next.ensures, c.if-taken-next.false)
       ]);
-      calls_low = λ less within. low_called m c.args.removed c.loop-n.n low c.loop-n.low receiver c.loop-n.receiver i.from i.first c.is_same.new.low.register.disk (not c.is_same.new.low.register.is_open) i.calls_low e.calls_low;
-      calls_receiver = λ less within.
-          receiver_called m c.args.removed c.loop-n.n low c.loop-n.low receiver c.loop-n.receiver i.from i.first c.is_same.new.receiver i.calls_receiver i.ready_receiver.is_open e.calls_receiver;
-      ready_low = e.ready_low;
-      ready_receiver = e.ready_receiver;
+      calls = λ less within. record {
+        low_called = low_called m c.args.removed c.loop-n.n low c.loop-n.low receiver c.loop-n.receiver i.from i.first c.is_same.new.low.register.disk (not c.is_same.new.low.register.is_open) i.calls_low e.calls.low_called;
+        receiver_called =
+            receiver_called m c.args.removed c.loop-n.n low c.loop-n.low receiver c.loop-n.receiver i.from i.first c.is_same.new.receiver i.calls_receiver i.ready_receiver.is_open e.calls.receiver_called;
+      };
       «open» = tt;
-      open_err = λ nd. absurd (false≢true (sym nd ∙ c.in-Err.ensures.device));
-      low = (e.low.0 ∙ i.low_is.0, e.low.1 ∙ i.low_is.1);
-      receiver = (e.receiver.0 ∙ i.receiver_is.0, e.receiver.1 ∙ i.receiver_is.1, e.receiver.2 ∙ i.receiver_is.2, e.receiver.3 ∙ i.receiver_is.3);
-      moves_low = goes_on_same m Same _ _ _ i.moves_low e.moves_low;
-      moves_receiver = goes_on_same m Same _ _ _ i.moves_receiver e.moves_receiver;
+      low = record {
+        ready = e.low.ready;
+        count = e.low.count ∙ i.low_is.0;
+        row = e.low.row ∙ i.low_is.1;
+        moves = goes_on_same m Same _ _ _ i.moves_low e.low.moves;
+      };
+      receiver = record {
+        ready = e.receiver.ready;
+        count = e.receiver.count ∙ i.receiver_is.0;
+        end = e.receiver.end ∙ i.receiver_is.1;
+        row = e.receiver.row ∙ i.receiver_is.2;
+        size = e.receiver.size ∙ i.receiver_is.3;
+        moves = goes_on_same m Same _ _ _ i.moves_receiver e.receiver.moves;
+      };
     }
 
 pub loop-n-preserved : goal.loop-n-preserved
@@ -137,12 +173,12 @@ loop-n-preserved g c =
     record {
       from = omega (arith, i.from);
       to = omega (arith, c.loop-n-test.true);
-      ready_low = e.ready_low both.0;
-      ready_receiver = e.ready_receiver both.1;
-      low_is = (e.low.0 ∙ i.low_is.0, e.low.1 ∙ i.low_is.1);
-      receiver_is = (e.receiver.0 ∙ i.receiver_is.0, e.receiver.1 ∙ i.receiver_is.1, e.receiver.2 ∙ i.receiver_is.2, e.receiver.3 ∙ i.receiver_is.3);
-      moves_low = goes_on_same m Same _ _ _ i.moves_low e.moves_low;
-      moves_receiver = goes_on_same m Same _ _ _ i.moves_receiver e.moves_receiver;
+      ready_low = e.low.ready both.0;
+      ready_receiver = e.receiver.ready both.1;
+      low_is = (e.low.count ∙ i.low_is.0, e.low.row ∙ i.low_is.1);
+      receiver_is = (e.receiver.count ∙ i.receiver_is.0, e.receiver.end ∙ i.receiver_is.1, e.receiver.row ∙ i.receiver_is.2, e.receiver.size ∙ i.receiver_is.3);
+      moves_low = goes_on_same m Same _ _ _ i.moves_low e.low.moves;
+      moves_receiver = goes_on_same m Same _ _ _ i.moves_receiver e.receiver.moves;
       same = λ told ms s n from to. elim (cases_lt n c.loop-n.n) [
         | inl early ↦ i.same told ms s n from early
         | inr late ↦
@@ -150,14 +186,14 @@ loop-n-preserved g c =
             let d = m.reading low.register.disk in
             let s' : RecvStands c.loop-n.receiver.row ms (m.reading c.loop-n.receiver.register.disk) =
             subst (λ (w : SessionRow). RecvStands w ms (m.reading c.loop-n.receiver.register.disk)) (sym i.receiver_is.2) (subst (λ (z : List ℕ). RecvStands receiver.row ms z) (sym (i.moves_receiver.reads told)) s) in
-            let has = c.in-Ok-true.ensures.same c.in-Ok-true.field-0-test told ms s' in
+            let has = c.in-Ok-true.ensures.same.same c.in-Ok-true.field-0-test told ms s' in
             subst (λ k. InSlot low.row k (get_or ms k []) d) here
             (subst (λ (w : SessionRow). InSlot w c.loop-n.n (get_or ms c.loop-n.n []) d) i.low_is.1 (subst (λ (z : List ℕ). InSlot c.loop-n.low.row c.loop-n.n (get_or ms c.loop-n.n []) z) (i.moves_low.reads told) has))
       ];
       first = λ is. absurd (omega (arith, is, i.from));
       calls_low = λ lt.
           low_called m c.args.removed c.loop-n.n low c.loop-n.low receiver c.loop-n.receiver i.from i.first c.is_same.new.low.register.disk false i.calls_low
-          (subst (λ f. Calls m c.loop-n.low.register.disk c.is_same.new.low.register.disk f) (ap not both.0) e.calls_low);
+          (subst (λ f. Calls m c.loop-n.low.register.disk c.is_same.new.low.register.disk f) (ap not both.0) e.calls.low_called);
       calls_receiver = λ lt.
           goes_on m c.args.removed c.loop-n.n low c.loop-n.low receiver c.loop-n.receiver i.from i.first c.is_same.new.receiver.register.disk i.calls_receiver called.0 called.1;
     }
@@ -174,24 +210,30 @@ returns g c =
         (λ told ms s n from to. i.same told ms s n from (omega (arith, to, count, c.loop-n-test.false))),
       );
       exact = tt;
-      device_low = tt;
-      device_receiver = tt;
-      shut = tt;
-      one = tt;
+      told = tt;
       idle = λ none. i.first (elim none [
         | inl few ↦ omega (arith, few, count, i.from, i.to)
         | inr many ↦ absurd (omega (arith, many, count, c.accepted-next.ensures, c.if-taken-next.false))
       ]);
-      calls_low = λ less within. subst (λ f. Calls m c.args.low.now.register.disk c.loop-n.low.register.disk f) (sym (ap not i.ready_low.ready.is_open)) (i.calls_low (omega (arith, less, count, c.loop-n-test.false)));
-      calls_receiver = λ less within.
-          let called = i.calls_receiver (omega (arith, less, count, c.loop-n-test.false)) in
-          inl (subst (λ f. Calls m c.args.receiver.now.register.disk c.loop-n.receiver.register.disk f) (sym (ap not i.ready_receiver.is_open)) called.0, called.1);
-      ready_low = λ _. i.ready_low;
-      ready_receiver = λ _. i.ready_receiver;
+      calls = λ less within. record {
+        low_called = subst (λ f. Calls m c.args.low.now.register.disk c.loop-n.low.register.disk f) (sym (ap not i.ready_low.ready.is_open)) (i.calls_low (omega (arith, less, count, c.loop-n-test.false)));
+        receiver_called =
+            let called = i.calls_receiver (omega (arith, less, count, c.loop-n-test.false)) in
+            inl (subst (λ f. Calls m c.args.receiver.now.register.disk c.loop-n.receiver.register.disk f) (sym (ap not i.ready_receiver.is_open)) called.0, called.1);
+      };
       «open» = (i.ready_low.ready.is_open, i.ready_receiver.is_open);
-      open_err = tt;
-      low = i.low_is;
-      receiver = i.receiver_is;
-      moves_low = i.moves_low;
-      moves_receiver = i.moves_receiver;
+      low = record {
+        ready = λ _. i.ready_low;
+        count = i.low_is.0;
+        row = i.low_is.1;
+        moves = i.moves_low;
+      };
+      receiver = record {
+        ready = λ _. i.ready_receiver;
+        count = i.receiver_is.0;
+        end = i.receiver_is.1;
+        row = i.receiver_is.2;
+        size = i.receiver_is.3;
+        moves = i.moves_receiver;
+      };
     }

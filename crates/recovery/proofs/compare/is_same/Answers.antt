@@ -15,32 +15,41 @@ returns-then-length-len g c =
     let row = c.args.low.now.row in
     let s = c.in-Ok.ensures in
     record {
-      same = λ is. elim (false≢true is) [ ];
-      other = λ _ told ms stand has.
-          let e = s.length told ∙ slot_length row c.requires.low.ranges.short c.args.n _ (m.reading c.args.low.now.register.disk) has in
-          let short : c.in-Ok.length ≤ row.message = omega (arith, e, has.fits) in
-          omega (arith, s.fits short, c.len.ensures.value, c.if-length-len.true);
+      same = record {
+        same = λ is. elim (false≢true is) [ ];
+        other = λ _ told ms stand has.
+            let e = s.length told ∙ slot_length row c.requires.low.ranges.short c.args.n _ (m.reading c.args.low.now.register.disk) has in
+            let short : c.in-Ok.length ≤ row.message = omega (arith, e, has.fits) in
+            omega (arith, s.fits short, c.len.ensures.value, c.if-length-len.true);
+      };
       device = tt;
-      device_low = tt;
-      device_receiver = tt;
-      shut = tt;
-      one = tt;
-      calls_low = calls_ok m _ _ _ _ s.answers _ (ap not s.ready.ready.is_open);
-      calls_receiver = inr (
-        refl,
-        (λ plan go.
-            let e = s.length (m.plan_tells plan) in
-            let short : c.in-Ok.length ≤ row.message = omega (arith, e, go.1) in
-            omega (arith, s.fits short, c.len.ensures.value, c.if-length-len.true)),
-      );
+      told = tt;
+      calls = record {
+        low_called = calls_ok m _ _ _ _ s.answers _ (ap not s.ready.ready.is_open);
+        receiver_called = inr (
+          refl,
+          (λ plan go.
+              let e = s.length (m.plan_tells plan) in
+              let short : c.in-Ok.length ≤ row.message = omega (arith, e, go.1) in
+              omega (arith, s.fits short, c.len.ensures.value, c.if-length-len.true)),
+        );
+      };
       called = λ is. elim (false≢true is) [ ];
-      ready_low = λ _. s.ready;
-      ready_receiver = λ _. c.requires.receiver;
       «open» = (s.ready.ready.is_open, c.requires.receiver.is_open);
-      low = (s.count, s.row);
-      receiver = (refl, refl, refl, refl);
-      moves_low = s.moves;
-      moves_receiver = started m Same (λ d. refl) c.args.receiver.now.register.disk;
+      low = record {
+        ready = λ _. s.ready;
+        count = s.count;
+        row = s.row;
+        moves = s.moves;
+      };
+      receiver = record {
+        ready = λ _. c.requires.receiver;
+        count = refl;
+        end = refl;
+        row = refl;
+        size = refl;
+        moves = started m Same (λ d. refl) c.args.receiver.now.register.disk;
+      };
     }
 
 pub returns-in-Err : goal.returns-in-Err
@@ -50,22 +59,34 @@ returns-in-Err g c =
     let holds = λ (plan : m.tells_plan). (c.requires.low.stands (m.plan_tells plan)).2.size in
     record {
       same = tt;
-      other = tt;
       device = refl;
-      device_low = λ _. ap Device e.device;
-      device_receiver = λ shut. elim (false≢true (sym shut ∙ c.requires.receiver.is_open)) [ ];
-      shut = inl e.closed;
-      one = λ _. c.requires.receiver.is_open;
-      calls_low = calls_err m _ _ _ _ e.answers (λ plan. omega (arith, holds plan)) _ (ap not e.closed);
-      calls_receiver = inr (refl, (λ plan go. absurd (false≢true (e.answers.never plan go.0 (omega (arith, holds plan))))));
+      told = record {
+        low_faults = λ _. λ _. ap Device e.device;
+        receiver_faults = λ _. λ shut. elim (false≢true (sym shut ∙ c.requires.receiver.is_open)) [ ];
+        shut = λ _. inl e.closed;
+        one = λ _. c.requires.receiver.is_open;
+        both = λ is. elim (false≢true (sym is)) [ ];
+      };
+      calls = record {
+        low_called = calls_err m _ _ _ _ e.answers (λ plan. omega (arith, holds plan)) _ (ap not e.closed);
+        receiver_called = inr (refl, (λ plan go. absurd (false≢true (e.answers.never plan go.0 (omega (arith, holds plan))))));
+      };
       called = tt;
-      ready_low = λ is_open. elim (false≢true (sym e.closed ∙ is_open)) [ ];
-      ready_receiver = λ _. c.requires.receiver;
       «open» = tt;
-      low = (e.count, e.row);
-      receiver = (refl, refl, refl, refl);
-      moves_low = e.moves;
-      moves_receiver = started m Same (λ d. refl) c.args.receiver.now.register.disk;
+      low = record {
+        ready = λ is_open. elim (false≢true (sym e.closed ∙ is_open)) [ ];
+        count = e.count;
+        row = e.row;
+        moves = e.moves;
+      };
+      receiver = record {
+        ready = λ _. c.requires.receiver;
+        count = refl;
+        end = refl;
+        row = refl;
+        size = refl;
+        moves = started m Same (λ d. refl) c.args.receiver.now.register.disk;
+      };
     }
 
 pub returns-in-Err-message : goal.returns-in-Err-message
@@ -81,25 +102,37 @@ returns-in-Err-message g c =
     ] in
     record {
       same = tt;
-      other = tt;
       device = refl;
-      device_low = λ shut. elim (false≢true (sym shut ∙ s.ready.ready.is_open)) [ ];
-      device_receiver = λ _. ap Device e.device;
-      shut = inr e.closed;
-      one = λ shut. elim (false≢true (sym shut ∙ s.ready.ready.is_open)) [ ];
-      calls_low = calls_ok m _ _ _ _ s.answers _ (ap not s.ready.ready.is_open);
-      calls_receiver = inl (
-        calls_err m _ _ _ _ e.answers (λ _. tt) _ (ap not e.closed),
-        (λ plan. (not_armed _ (s.answers.always plan), (let k = s.length (m.plan_tells plan) in omega (arith, k, short)))),
-      );
+      told = record {
+        low_faults = λ _. λ shut. elim (false≢true (sym shut ∙ s.ready.ready.is_open)) [ ];
+        receiver_faults = λ _. λ _. ap Device e.device;
+        shut = λ _. inr e.closed;
+        one = λ shut. elim (false≢true (sym shut ∙ s.ready.ready.is_open)) [ ];
+        both = λ is. elim (false≢true (sym is)) [ ];
+      };
+      calls = record {
+        low_called = calls_ok m _ _ _ _ s.answers _ (ap not s.ready.ready.is_open);
+        receiver_called = inl (
+          calls_err m _ _ _ _ e.answers (λ _. tt) _ (ap not e.closed),
+          (λ plan. (not_armed _ (s.answers.always plan), (let k = s.length (m.plan_tells plan) in omega (arith, k, short)))),
+        );
+      };
       called = tt;
-      ready_low = λ _. s.ready;
-      ready_receiver = λ is_open. elim (false≢true (sym e.closed ∙ is_open)) [ ];
       «open» = tt;
-      low = (s.count, s.row);
-      receiver = (e.count, e.end, e.row, e.size);
-      moves_low = s.moves;
-      moves_receiver = e.moves;
+      low = record {
+        ready = λ _. s.ready;
+        count = s.count;
+        row = s.row;
+        moves = s.moves;
+      };
+      receiver = record {
+        ready = λ is_open. elim (false≢true (sym e.closed ∙ is_open)) [ ];
+        count = e.count;
+        end = e.end;
+        row = e.row;
+        size = e.size;
+        moves = e.moves;
+      };
     }
 
 pub returns : goal.returns
@@ -114,30 +147,39 @@ returns g c =
       | inr le ↦ le
     ] in
     record {
-      same = λ is told ms stand. subst (λ (x : List ℕ). InSlot row c.args.n x (m.reading c.args.low.now.register.disk)) (c.are_equal.ensures.equal is ∙ e.message told ms stand) (s.stands short told);
-      other = λ is told ms stand has.
-          let one : c.slot.new.into ≡ c.message.new.into =
-          slot_one row c.requires.low.ranges.short c.args.n _ _ (m.reading c.args.low.now.register.disk) (s.stands short told) has ∙ sym (e.message told ms stand) in
-          c.are_equal.ensures.unequal is one;
+      same = record {
+        same = λ is told ms stand. subst (λ (x : List ℕ). InSlot row c.args.n x (m.reading c.args.low.now.register.disk)) (c.are_equal.ensures.equal is ∙ e.message told ms stand) (s.stands short told);
+        other = λ is told ms stand has.
+            let one : c.slot.new.into ≡ c.message.new.into =
+            slot_one row c.requires.low.ranges.short c.args.n _ _ (m.reading c.args.low.now.register.disk) (s.stands short told) has ∙ sym (e.message told ms stand) in
+            c.are_equal.ensures.unequal is one;
+      };
       device = tt;
-      device_low = tt;
-      device_receiver = tt;
-      shut = tt;
-      one = tt;
-      calls_low = calls_ok m _ _ _ _ s.answers _ (ap not s.ready.ready.is_open);
-      calls_receiver = inl (
-        calls_ok m _ _ _ _ e.answers _ (ap not e.ready.is_open),
-        (λ plan. (not_armed _ (s.answers.always plan), (let k = s.length (m.plan_tells plan) in omega (arith, k, short)))),
-      );
+      told = tt;
+      calls = record {
+        low_called = calls_ok m _ _ _ _ s.answers _ (ap not s.ready.ready.is_open);
+        receiver_called = inl (
+          calls_ok m _ _ _ _ e.answers _ (ap not e.ready.is_open),
+          (λ plan. (not_armed _ (s.answers.always plan), (let k = s.length (m.plan_tells plan) in omega (arith, k, short)))),
+        );
+      };
       called = λ is. (
         calls_ok m _ _ _ _ e.answers false refl,
         (λ plan. (not_armed _ (s.answers.always plan), (let k = s.length (m.plan_tells plan) in omega (arith, k, short)))),
       );
-      ready_low = λ _. s.ready;
-      ready_receiver = λ _. e.ready;
       «open» = (s.ready.ready.is_open, e.ready.is_open);
-      low = (s.count, s.row);
-      receiver = (e.count, e.end, e.row, e.size);
-      moves_low = s.moves;
-      moves_receiver = e.moves;
+      low = record {
+        ready = λ _. s.ready;
+        count = s.count;
+        row = s.row;
+        moves = s.moves;
+      };
+      receiver = record {
+        ready = λ _. e.ready;
+        count = e.count;
+        end = e.end;
+        row = e.row;
+        size = e.size;
+        moves = e.moves;
+      };
     }

@@ -15,7 +15,7 @@ returns-after-is_open-clause-refused g c = λ nd told.
     let made = c.old_fault.ensures in
     let why : c.old_fault.result.why ≡ c.in-Err.why = ap (λ (f : MoveFault). f.why) made in
     let nd' : is_device c.in-Err.why ≡ false = subst (λ w. is_device w ≡ false) why nd in
-    let opened = c.in-Err.ensures.open_err nd' in
+    let opened = c.in-Err.ensures.told.both nd' in
     let differs = subst (λ (w : Why). (messages : List (List ℕ)) → RecvStands receiver.row messages (m.reading receiver.register.disk)
     → Disagrees low.row c.args.removed receiver.register.first low.register.first messages (m.reading low.register.disk) w) (sym why) (c.in-Err.ensures.exact nd' told) in
     elim c.if-is_open.branch [

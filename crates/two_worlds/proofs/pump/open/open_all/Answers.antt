@@ -90,10 +90,10 @@ returns-in-Ok-agree g c = record {
       let a = c.agree.ensures in
       let (ms, stands, dealt) = e.dealt in
       record {
-        ready_low = a.ready_low c.in-Ok-agree.ensures.open.0;
+        ready_low = a.low.ready c.in-Ok-agree.ensures.open.0;
         ready_high = e.ready_high;
-        row_is = a.low.1 ∙ e.row;
-        counts = (a.low.0 ∙ e.counts.0, e.counts.1);
+        row_is = a.low.row ∙ e.row;
+        counts = (a.low.count ∙ e.counts.0, e.counts.1);
         messages = ms;
         stands = stands;
         removed = e.removed;
@@ -114,14 +114,14 @@ returns-in-Ok-agree g c = record {
       let receiver = c.in-Ok-open_receiver.receiver in
       let low = c.in-Ok.pump.low in
       record {
-        ready = a.ready_receiver c.in-Ok-agree.ensures.open.1;
-        row_is = a.receiver.2 ∙ r.row;
-        size = a.receiver.3 ∙ r.size;
+        ready = a.receiver.ready c.in-Ok-agree.ensures.open.1;
+        row_is = a.receiver.row ∙ r.row;
+        size = a.receiver.size ∙ r.size;
         stands = r.stands;
-        between = (omega (arith, c.in-Ok-agree.ensures.fine.0, a.receiver.0), omega (arith, c.in-Ok-agree.ensures.fine.1, a.receiver.0, e.counts.0));
+        between = (omega (arith, c.in-Ok-agree.ensures.fine.0, a.receiver.count), omega (arith, c.in-Ok-agree.ensures.fine.1, a.receiver.count, e.counts.0));
         agrees = λ told ms s n from to.
             let s' : RecvStands receiver.row ms (m.reading (recv_disk receiver)) = subst (λ (t : SessionRow × List ℕ). RecvStands t.0 ms t.1) (λ i. (sym r.row i, sym (r.same.reads told) i)) s in
-            let has = c.in-Ok-agree.ensures.fine.2 told ms s' n from (omega (arith, to, a.receiver.0)) in
+            let has = c.in-Ok-agree.ensures.fine.2 told ms s' n from (omega (arith, to, a.receiver.count)) in
             subst (λ (t : SessionRow × List ℕ). InSlot t.0 n (slice_index_or ms n []) t.1) (λ i. (e.row i, e.moves_low.reads told i)) has;
       };
   refused = tt;
@@ -136,7 +136,7 @@ returns-in-Ok-agree g c = record {
       let receiver = c.in-Ok-open_receiver.receiver in
       serves_then m 0 c.args.disks.low (low_disk low) (low_disk new) false (serves_by m 0 c.args.disks.low (low_disk low) false e.calls_low)
       (subst (λ b. Serves m 0 (low_disk low) (low_disk new) b) (ap not c.in-Ok-agree.ensures.open.0)
-      (compares_low m 0 c.args.row.now c.in-Ok.pump.removed receiver.register.first low.register.first low new receiver c.agree.new.receiver a.idle e.ready_low.ready.is_open a.calls_low));
+      (compares_low m 0 c.args.row.now c.in-Ok.pump.removed receiver.register.first low.register.first low new receiver c.agree.new.receiver a.idle e.ready_low.ready.is_open (λ less within. (a.calls less within).low_called)));
   high = serves_high g.D.Disk.told 0 c.args.row.now c.args.disks.low c.args.disks.high c.in-Ok.pump.high.register.disk false c.in-Ok.ensures.calls_high;
   recv =
       let m = g.D.Disk.told in
@@ -147,10 +147,10 @@ returns-in-Ok-agree g c = record {
       let receiver = c.in-Ok-open_receiver.receiver in
       serves_then m 0 c.args.disks.recv (recv_disk receiver) (recv_disk new) false (serves_by m 0 c.args.disks.recv (recv_disk receiver) false r.calls)
       (subst (λ b. Serves m 0 (recv_disk receiver) (recv_disk new) b) (ap not c.in-Ok-agree.ensures.open.1)
-      (compares_recv m 0 low.row c.in-Ok.pump.removed receiver.register.first low.register.first low c.agree.new.low receiver new a.idle r.ready.is_open a.calls_receiver));
-  moves_low = goes_on_same g.D.Disk.told Same _ _ _ c.in-Ok.ensures.moves_low c.agree.ensures.moves_low;
+      (compares_recv m 0 low.row c.in-Ok.pump.removed receiver.register.first low.register.first low c.agree.new.low receiver new a.idle r.ready.is_open (λ less within. (a.calls less within).receiver_called)));
+  moves_low = goes_on_same g.D.Disk.told Same _ _ _ c.in-Ok.ensures.moves_low c.agree.ensures.low.moves;
   moves_high = c.in-Ok.ensures.moves_high;
-  moves_recv = goes_on_same g.D.Disk.told Same _ _ _ c.in-Ok-open_receiver.ensures.same c.agree.ensures.moves_receiver;
+  moves_recv = goes_on_same g.D.Disk.told Same _ _ _ c.in-Ok-open_receiver.ensures.same c.agree.ensures.receiver.moves;
 }
 
 -- refused by the comparison
@@ -177,7 +177,7 @@ returns-in-Err-agree g c = record {
       let taken : receiver.register.first ≡ (value_of (m.reading c.args.disks.recv)).0 = ap (λ (v : ℕ × ℕ). v.0) (r.value told) in
       let next : low.register.first ≡ (value_of (m.reading c.args.disks.low)).0 = e.counts.0 ∙ ap (λ (v : ℕ × ℕ). v.0) (sym (stands told).value) in
       subst (λ (t : SessionRow × ℕ × ℕ × ℕ × List ℕ). Disagrees t.0 t.1 t.2 t.3 messages t.4 why) (λ i. (e.row i, removed i, taken i, next i, e.moves_low.reads told i)) (a.exact other told messages s') in
-      inr (e.fine told, c.blamed-role.ensures ∙ ap role_blamed (a.open_err other).0, inr (r.fine told, differs)));
+      inr (e.fine told, c.blamed-role.ensures ∙ ap role_blamed (a.told.both other).0, inr (r.fine told, differs)));
   device =
       let m = g.D.Disk.told in
       let e = c.in-Err-agree.ensures in
@@ -188,10 +188,10 @@ returns-in-Err-agree g c = record {
       let recv = recv_disk c.agree.new.receiver in
       subst (λ r. IfSome r.why (λ why. is_device why ≡ true → why ≡ Device (m.count (disk_back r.role r)))) (sym c.refused-in-Err-agree.ensures)
       (λ is.
-      let shut : low_is_open c.agree.new.low ≡ true → recv_is_open c.agree.new.receiver ≡ false = λ up. elim (e.shut is) [ inl low_down ↦ absurd (cc) | inr down ↦ down ] in
+      let shut : low_is_open c.agree.new.low ≡ true → recv_is_open c.agree.new.receiver ≡ false = λ up. elim (e.told.shut is) [ inl low_down ↦ absurd (cc) | inr down ↦ down ] in
       counts_blamed m (record { role = role; why = Some why; low = low; high = high; recv = c.into_disk.result }) why (low_is_open c.agree.new.low) role c.blamed-role.ensures
-      (λ down. e.device_low is down)
-      (λ up. e.device_receiver is (shut up) ∙ ap (λ d. Device (m.count d)) (sym c.into_disk.ensures)));
+      (λ down. e.told.low_faults is down)
+      (λ up. e.told.receiver_faults is (shut up) ∙ ap (λ d. Device (m.count d)) (sym c.into_disk.ensures)));
   some = ap (λ r. is_some r.why) c.refused-in-Err-agree.ensures;
   low =
       let m = g.D.Disk.told in
@@ -203,9 +203,9 @@ returns-in-Err-agree g c = record {
       let old = c.args.disks.low in
       let receiver = c.in-Ok-open_receiver.receiver in
       let serves = serves_then m 0 old (low_disk low) (low_disk new) (not (low_is_open new)) (serves_by m 0 old (low_disk low) false e.calls_low)
-      (compares_low m 0 c.args.row.now c.in-Ok.pump.removed receiver.register.first low.register.first low new receiver c.agree.new.receiver a.idle e.ready_low.ready.is_open a.calls_low) in
+      (compares_low m 0 c.args.row.now c.in-Ok.pump.removed receiver.register.first low.register.first low new receiver c.agree.new.receiver a.idle e.ready_low.ready.is_open (λ less within. (a.calls less within).low_called)) in
       let blamed : (d && is_role roles.Low c.blamed-role.result) ≡ not (low_is_open new) =
-      ap (λ k. d && is_role roles.Low k) c.blamed-role.ensures ∙ low_blamed d (low_is_open new) (λ other. (c.in-Err-agree.ensures.open_err other).0) in
+      ap (λ k. d && is_role roles.Low k) c.blamed-role.ensures ∙ low_blamed d (low_is_open new) (λ other. (c.in-Err-agree.ensures.told.both other).0) in
       subst (λ r. Serves m 0 old (disk_back roles.Low r) (failed_at roles.Low r)) (sym c.refused-in-Err-agree.ensures)
       (subst (λ b. Serves m 0 old (low_disk new) b) (sym blamed) serves);
   high =
@@ -227,17 +227,17 @@ returns-in-Err-agree g c = record {
       let old = c.args.disks.recv in
       let receiver = c.in-Ok-open_receiver.receiver in
       let serves = serves_then m 0 old (recv_disk receiver) (recv_disk new) (not (recv_is_open new)) (serves_by m 0 old (recv_disk receiver) false r.calls)
-      (compares_recv m 0 low.row c.in-Ok.pump.removed receiver.register.first low.register.first low c.agree.new.low receiver new a.idle r.ready.is_open a.calls_receiver) in
+      (compares_recv m 0 low.row c.in-Ok.pump.removed receiver.register.first low.register.first low c.agree.new.low receiver new a.idle r.ready.is_open (λ less within. (a.calls less within).receiver_called)) in
       let blamed : (d && is_role roles.Recv c.blamed-role.result) ≡ not (recv_is_open new) =
-      ap (λ k. d && is_role roles.Recv k) c.blamed-role.ensures ∙ recv_blamed d (low_is_open c.agree.new.low) (recv_is_open new) e.shut (λ other. (e.open_err other).1) e.one in
+      ap (λ k. d && is_role roles.Recv k) c.blamed-role.ensures ∙ recv_blamed d (low_is_open c.agree.new.low) (recv_is_open new) e.told.shut (λ other. (e.told.both other).1) e.told.one in
       subst (λ r. Serves m 0 old (disk_back roles.Recv r) (failed_at roles.Recv r)) (sym c.refused-in-Err-agree.ensures)
       (subst (λ k. Serves m 0 old k (d && is_role roles.Recv c.blamed-role.result)) (sym c.into_disk.ensures) (subst (λ b. Serves m 0 old (recv_disk new) b) (sym blamed) serves));
   moves_low =
       let m = g.D.Disk.told in
-      subst (λ r. Moves m Same c.args.disks.low (disk_back roles.Low r)) (sym c.refused-in-Err-agree.ensures) (goes_on_same m Same _ _ _ c.in-Ok.ensures.moves_low c.agree.ensures.moves_low);
+      subst (λ r. Moves m Same c.args.disks.low (disk_back roles.Low r)) (sym c.refused-in-Err-agree.ensures) (goes_on_same m Same _ _ _ c.in-Ok.ensures.moves_low c.agree.ensures.low.moves);
   moves_high = subst (λ r. Moves g.D.Disk.told Same c.args.disks.high (disk_back roles.High r)) (sym c.refused-in-Err-agree.ensures) c.in-Ok.ensures.moves_high;
   moves_recv =
       let m = g.D.Disk.told in
-      let moves = goes_on_same m Same _ _ _ c.in-Ok-open_receiver.ensures.same c.agree.ensures.moves_receiver in
+      let moves = goes_on_same m Same _ _ _ c.in-Ok-open_receiver.ensures.same c.agree.ensures.receiver.moves in
       subst (λ r. Moves m Same c.args.disks.recv (disk_back roles.Recv r)) (sym c.refused-in-Err-agree.ensures) (subst (λ k. Moves m Same c.args.disks.recv k) (sym c.into_disk.ensures) moves);
 }

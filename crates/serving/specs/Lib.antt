@@ -10,4 +10,5 @@ pub mod PassageEnds
 pub mod Replayed
 pub mod SentStored
 pub mod Sessions
+pub mod Starting
 pub mod WorkerEnds

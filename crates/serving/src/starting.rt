@@ -1,21 +1,16 @@
 // The two processes of an opening, each with what it needs.
-ghost use Rattle.std.specs.Prelude.{◌≡◌, false, [], is_some};
-ghost use Rattle.rand_chacha.specs.ChaCha.{key_of};
+ghost use Rattle.std.specs.Prelude.{◌≡◌, false};
 ghost use Rattle.pump_core.specs.Passage.{Low, High, ComesNext, new_high};
 ghost use Rattle.pump_frame.specs.Rows.{IsLawfulRow};
 ghost use Rattle.stable_buffer.specs.Low.{IsLowReady, low_count, low_row};
 ghost use Rattle.stable_buffer.specs.High.{IsHighReady, high_count};
-ghost use Rattle.low_process.specs.Ends.{number_offered, StandsFitting};
-ghost use Rattle.low_process.specs.Looks.{IsHand, opening_of, last_of as low_last, next_of, row_of as low_row_of};
-ghost use Rattle.low_process.specs.Looks.{hand_of, is_down};
+ghost use Rattle.low_process.specs.Ends.{number_offered};
+ghost use Rattle.low_process.specs.Looks.{IsHand, last_of as low_last, is_down};
 ghost use Rattle.low_process.specs.Ready.{Ready as LowReady};
-ghost use Rattle.high_process.specs.Ends.{StandsFitting as HighFitting};
-ghost use Rattle.high_process.specs.Looks.{IsHand as IsHighHand, StandsFor};
-ghost use Rattle.high_process.specs.Past.{fresh};
+ghost use Rattle.high_process.specs.Looks.{IsHand as IsHighHand};
 ghost use Rattle.high_process.specs.Ready.{Ready as HighReady};
-ghost use Rattle.high_process.specs.States.{last_of as high_last, row_of as high_row_of};
-ghost use Rattle.relay_threads.specs.LowServes.{Lives};
-ghost use Rattle.script_reader.specs.Grammar.{IsCount};
+ghost use Rattle.high_process.specs.States.{last_of as high_last};
+ghost use Rattle.serving.specs.Starting.{LowBegins, HighBegins};
 
 use crate::high_half::HighParts;
 use crate::low_half::LowParts;
@@ -45,18 +40,7 @@ pub fn start_low<D: Disk, L: WaitLowEnd>(
     ensures ready { LowReady D.told result.process result.store (L.stands result.ends) }
     ensures up { is_down result.process ≡ false }
     ensures last { low_last result.process ≡ 0 }
-    ensures row { low_row_of result.process ≡ row.now }
-    ensures next { next_of result.process ≡ next }
-    ensures hand { hand_of result.process ≡ hand }
-    ensures held { result.is_held ≡ is_some hand }
-    ensures counted { IsCount next (is_some hand) }
-    ensures lives { Lives result.process (opening_of next hand) [] }
-    ensures words { result.words ≡ record { key = key_of key; stream = 0; word_pos = 0 } }
-    ensures store { result.store ≡ store }
-    ensures kept { result.ends ≡ ends }
-    // The process fits all that the end stands for and that the next message may come behind.
-    ensures fits { (l : Low) (h : High) → L.stands ends l h → ComesNext l.forwarded (number_offered next hand)
-        → StandsFitting (L.stands result.ends) result.process l h }
+    ensures begins { LowBegins L.stands row.now next hand store ends key result }
 {
     let is_held = hand.is_some();
     let process = LowProcess::open(row, next, hand);
@@ -83,11 +67,7 @@ pub fn start_high<D: Disk, H: WaitHighEnd>(
     requires ends { (l : Low) → H.stands ends l new_high }
     ensures ready { HighReady D.told result.process result.store (H.stands result.ends) }
     ensures last { high_last result.process ≡ 0 }
-    ensures row { high_row_of result.process ≡ row.now }
-    ensures stands { StandsFor result.process (fresh removed hand) }
-    ensures store { result.store ≡ store }
-    ensures kept { result.ends ≡ ends }
-    ensures fits { (l : Low) → HighFitting (H.stands result.ends) result.process l new_high }
+    ensures begins { HighBegins H.stands row.now removed hand store ends result }
 {
     let process = HighProcess::open(row, removed, hand);
     HighParts {

@@ -67,20 +67,20 @@ returns-in-Ok-ends-clause-ended g c =
     let (messages, stands, dealt) = e.dealt in
     let o : AtOpening = record { count = p.next; removed = p.removed; messages = messages; high_hand = p.high_hand; low_hand = p.low_hand } in
     let found = finds_both m row o _ _ c.args.low c.args.high dealt e.hands stands e.removed in
-    let shape : g.L.LowSide.shape s.result.ends ≡ g.L.LowSide.shape c.args.low_ends = ap g.L.LowSide.shape s.ensures.kept ∙ e.ends.0 in
+    let shape : g.L.LowSide.shape s.result.ends ≡ g.L.LowSide.shape c.args.low_ends = ap g.L.LowSide.shape s.ensures.begins.ends_are ∙ e.ends.0 in
     let low_lent = if_ok served.result.ends ends _ c.in-Ok-ends.is served.ensures.low in
     let high_lent = if_ok served.result.ends ends _ c.in-Ok-ends.is served.ensures.high in
     let (l, low_stands, low) =
     low_done _ m _ row _ c.args.key _ _ _ _ _ o s.result served.result.low p.low c.args.low c.args.high c.into_disk-low_disk.result ends.low low_lent
-    s.ensures.row s.ensures.next s.ensures.hand s.ensures.held s.ensures.lives s.ensures.words s.ensures.store c.into_disk-low_disk.ensures found e.moves_low.reads e.calls_low.counts c.requires.lawful s.ensures.counted
-    (still_end g.L.LowSide.stands g.L.LowSide.shape c.args.low_ends s.result.ends row (row_of s.result.process) shape s.ensures.row c.requires.averages) (ap (λ (x : Shape). x.places) shape ∙ c.requires.shape)
-    (s.ensures.fits _ new_high (dealt.fills new_low new_high c.requires.low_ends refl) (comes_next row.capacity p.removed p.next messages p.high_hand p.low_hand (row_capacity row c.requires.lawful).0 dealt.count dealt.places e.hands)) in
+    s.ensures.begins.row_is s.ensures.begins.next_is s.ensures.begins.hand_is s.ensures.begins.held_is s.ensures.begins.lives s.ensures.begins.words_are s.ensures.begins.store_is c.into_disk-low_disk.ensures found e.moves_low.reads e.calls_low.counts c.requires.lawful s.ensures.begins.counted
+    (still_end g.L.LowSide.stands g.L.LowSide.shape c.args.low_ends s.result.ends row (row_of s.result.process) shape s.ensures.begins.row_is c.requires.averages) (ap (λ (x : Shape). x.places) shape ∙ c.requires.shape)
+    (s.ensures.begins.fits _ new_high (dealt.fills new_low new_high c.requires.low_ends refl) (comes_next row.capacity p.removed p.next messages p.high_hand p.low_hand (row_capacity row c.requires.lawful).0 dealt.count dealt.places e.hands)) in
     let (high_end, high_stands, high) =
     high_done _ m _ row _ _ o h.result served.result.high p.high c.args.high c.into_disk-high_disk.result ends.high high_lent
-    h.ensures.row h.ensures.stands h.ensures.store c.into_disk-high_disk.ensures (high_calls m row c.args.low c.args.high (high_disk p.high) _ e.calls_high) l (h.ensures.fits l) in
+    h.ensures.begins.row_is h.ensures.begins.stood h.ensures.begins.store_is c.into_disk-high_disk.ensures (high_calls m row c.args.low c.args.high (high_disk p.high) _ e.calls_high) l (h.ensures.begins.fits l) in
     record {
-      low_still = (low_lent.ran.still.0 ∙ shape, low_lent.ran.still.1 ∙ ap g.L.LowSide.place s.ensures.kept ∙ e.ends.1);
-      high_still = (high_lent.ran.still.0 ∙ ap g.H.HighSide.shape h.ensures.kept, high_lent.ran.still.1 ∙ ap g.H.HighSide.place h.ensures.kept);
+      low_still = (low_lent.ran.still.0 ∙ shape, low_lent.ran.still.1 ∙ ap g.L.LowSide.place s.ensures.begins.ends_are ∙ e.ends.1);
+      high_still = (high_lent.ran.still.0 ∙ ap g.H.HighSide.shape h.ensures.begins.ends_are, high_lent.ran.still.1 ∙ ap g.H.HighSide.place h.ensures.begins.ends_are);
       l = l;
       h = high_end;
       low_stands = low_stands;
@@ -94,8 +94,8 @@ returns-in-Err-ends-clause-comes g c =
     let m = g.D.Disk.told in
     let served = c.serve_doors-ends in
     let why = c.in-Err-ends.why in
-    let low : c.into_disk-low_disk.result ≡ low_disk c.in-Ok.opened.low = c.into_disk-low_disk.ensures ∙ ap low_disk (ap (λ x. x.store) (on_err served.result.ends why _ c.in-Err-ends.is served.ensures.low_kept) ∙ c.start_low-low.ensures.store) in
-    let high : c.into_disk-high_disk.result ≡ high_disk c.in-Ok.opened.high = c.into_disk-high_disk.ensures ∙ ap high_disk (ap (λ x. x.store) (on_err served.result.ends why _ c.in-Err-ends.is served.ensures.high_kept) ∙ c.start_high-high.ensures.store) in
+    let low : c.into_disk-low_disk.result ≡ low_disk c.in-Ok.opened.low = c.into_disk-low_disk.ensures ∙ ap low_disk (ap (λ x. x.store) (on_err served.result.ends why _ c.in-Err-ends.is served.ensures.low_kept) ∙ c.start_low-low.ensures.begins.store_is) in
+    let high : c.into_disk-high_disk.result ≡ high_disk c.in-Ok.opened.high = c.into_disk-high_disk.ensures ∙ ap high_disk (ap (λ x. x.store) (on_err served.result.ends why _ c.in-Err-ends.is served.ensures.high_kept) ∙ c.start_high-high.ensures.begins.store_is) in
     subst (SessionComes g.P.Ports.did g.P.Ports.faults m c.args.row.now c.args.low_side.now c.args.high_side.now served.new.low_side served.new.high_side c.args.tape.now served.new.tape c.args.low c.args.high c.into_disk-low_disk.result c.into_disk-high_disk.result)
     (sym c.end_unserved.ensures)
     (unserved_comes g.P.Ports.did g.P.Ports.faults m c.args.row.now c.args.low_side.now c.args.high_side.now served.new.low_side served.new.high_side c.args.tape.now served.new.tape c.args.low c.args.high c.into_disk-low_disk.result c.into_disk-high_disk.result

@@ -1,12 +1,18 @@
-use Rattle.std.proofs.Common.{sym, ◌∙◌, arith}
+use Rattle.std.proofs.Common.{sym, ◌∙◌, refl, arith}
 use Rattle.pump_core.specs.Passage.{new_low, new_high}
 use Rattle.high_process.specs.Past.{fresh}
 use Rattle.serving.proofs.starting.start_high.Goals as goal
 
-pub returns-clause-fits : goal.returns-clause-fits
-returns-clause-fits g c l =
+pub returns-clause-begins : goal.returns-clause-begins
+returns-clause-begins g c =
     let e = c.open-process.ensures in
-    (c.requires.ends l, record { count = sym e.published; floor = omega arith })
+    record {
+      row_is = e.row;
+      stood = e.stands;
+      store_is = refl;
+      ends_are = refl;
+      fits = λ l. (c.requires.ends l, record { count = sym e.published; floor = omega arith });
+    }
 
 pub returns-clause-ready : goal.returns-clause-ready
 returns-clause-ready g c =
@@ -20,5 +26,5 @@ returns-clause-ready g c =
       past = e.stands;
       l = new_low;
       h = new_high;
-      fitting = returns-clause-fits g c new_low;
+      fitting = (returns-clause-begins g c).fits new_low;
     }

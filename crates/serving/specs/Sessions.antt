@@ -87,17 +87,17 @@ pub record SessionComes {P K R L O S : Type 0} (did : P → List (PortsStep L R)
 
 abbrev pub end_in : {D L H : Type 0} → ServedOver D L H → SessionEnd
 end_in (over.Unserved served) = served.end
-end_in (over.Ended ends low high low_end high_end) = Ended ends
+end_in (over.Ended ends parts) = Ended ends
 
 abbrev pub low_in : {D L H : Type 0} → ServedOver D L H → D
 low_in (over.Unserved served) = served.low
-low_in (over.Ended ends low high low_end high_end) = low
+low_in (over.Ended ends parts) = parts.low
 
 abbrev pub high_in : {D L H : Type 0} → ServedOver D L H → D
 high_in (over.Unserved served) = served.high
-high_in (over.Ended ends low high low_end high_end) = high
+high_in (over.Ended ends parts) = parts.high
 
 -- where the workers ran, this is so of their ends and of the two ends of the passage
 abbrev pub IfEndsBack : {D L H : Type 0} → ServedOver D L H → (WorkersEnd → L → H → Type 0) → Type 0
 IfEndsBack (over.Unserved served) Holds = has_run served.end ≡ false
-IfEndsBack (over.Ended ends low high low_end high_end) Holds = Holds ends low_end high_end
+IfEndsBack (over.Ended ends parts) Holds = Holds ends parts.low_end parts.high_end

@@ -26,6 +26,16 @@ use relay_threads::{RoundsEnd, Watch};
 use std::sync::Wait;
 use std::thread::Threads;
 
+/// What a session is served by: its row, the key of its words, the watch that is told, and how many rounds a worker
+/// makes at most.
+#[derive(Drop)]
+pub struct Serving<'a, V> {
+    pub row: &'a SessionRow,
+    pub key: [u8; 32],
+    pub watch: &'a V,
+    pub rounds: u32,
+}
+
 /// How the two workers of a session ended.
 #[derive(Clone, Copy, PartialEq, Eq, Debug)]
 pub struct WorkersEnd {
@@ -112,14 +122,12 @@ pub fn serve_doors<
     V: Watch + Sync,
 >(
     rt: &T,
-    row: &SessionRow,
+    serving: &Serving<'_, V>,
     low_side: &mut RelaySide<P, K>,
     high_side: &mut RelaySide<P, K>,
     low: LowParts<W, D, L>,
     high: HighParts<D, H>,
     tape: &mut O,
-    watch: &V,
-    rounds: u32,
 ) -> ServedParts<W, D, L, H>
 where
     P::Link: Send,
@@ -134,24 +142,28 @@ where
         W.gives (end_tells L.stands L.shape L.place)
         (side P.did P.faults K.reads low_side.old low_side.new) (O.written tape.old) (O.written tape.new)
         (O.faults tape.old) (O.faults tape.new)
-        row.now.low_port rounds low result.low ends.low) }
+        serving.now.row.now.low_port serving.now.rounds low result.low ends.low) }
     ensures high { IfOk result.ends (λ ends.
         HighLent (doors P.Door.port P.Door.did P.Door.gives (links P.Link.gives P.Link.sent P.Link.faults)) D.told
         (end_tells H.stands H.shape H.place)
-        (side P.did P.faults K.reads high_side.old high_side.new) row.now.high_port rounds high result.high ends.high) }
+        (side P.did P.faults K.reads high_side.old high_side.new) serving.now.row.now.high_port serving.now.rounds high
+        result.high ends.high) }
     ensures wanting { IfErr result.ends (λ why. why ≡ NoDoor
         → WantDoor (ports P.did P.faults low_side.old.ports low_side.new.ports)
-        (ports P.did P.faults high_side.old.ports high_side.new.ports) row.now.low_port row.now.high_port) }
+        (ports P.did P.faults high_side.old.ports high_side.new.ports) serving.now.row.now.low_port serving.now.row.now.high_port) }
     ensures unstarted { IfErr result.ends (λ why. why ≡ NoThread
-        → OpensAndShuts (ports P.did P.faults low_side.old.ports low_side.new.ports) row.now.low_port
-        × OpensAndShuts (ports P.did P.faults high_side.old.ports high_side.new.ports) row.now.high_port) }
+        → OpensAndShuts (ports P.did P.faults low_side.old.ports low_side.new.ports) serving.now.row.now.low_port
+        × OpensAndShuts (ports P.did P.faults high_side.old.ports high_side.new.ports) serving.now.row.now.high_port) }
     ensures low_kept { OnErr result.ends (result.low ≡ low) }
     ensures high_kept { OnErr result.ends (result.high ≡ high) }
     ensures unused { OnErr result.ends ((low_side.new.clock ≡ low_side.old.clock)
         × (high_side.new.clock ≡ high_side.old.clock) × (tape.new ≡ tape.old)) }
 {
-    let Ok((low_door, high_door)) = open_doors(&mut low_side.ports, &mut high_side.ports, row)
-    else {
+    let Ok((low_door, high_door)) = open_doors(
+        &mut low_side.ports,
+        &mut high_side.ports,
+        serving.row,
+    ) else {
         return ServedParts {
             ends: Err(NotServed::NoDoor),
             low,
@@ -175,8 +187,8 @@ where
         tape,
         &mut high_half,
         high_side,
-        watch,
-        rounds,
+        serving.watch,
+        serving.rounds,
     );
     let LowHalf {
         door: low_door,

@@ -1,8 +1,7 @@
 // A session is served over its two disks.
 ghost use Rattle.std.specs.Prelude.{◌≡◌, ◌-◌};
-ghost use Rattle.pump_core.specs.Passage.{Low, new_low, new_high, shape_of_row};
+ghost use Rattle.pump_core.specs.Passage.{Low, new_low, new_high};
 ghost use Rattle.pump_frame.specs.Rows.{IsLawfulRow};
-ghost use Rattle.relay_ring.specs.RingEnds.{LowEndStands, HighEndStands, low_place, high_place, low_shape, high_shape};
 ghost use Rattle.relay_side.specs.Sides.{side};
 ghost use Rattle.relay_threads.specs.Levels.{IsEndOf};
 ghost use Rattle.serving.specs.Doors.{doors, links};
@@ -10,7 +9,7 @@ ghost use Rattle.serving.specs.Joined.{BothServed, EndsAsDone};
 ghost use Rattle.serving.specs.PassageEnds.{end_tells};
 ghost use Rattle.serving.specs.Sessions.{IfEnded, IfEndsBack, SessionComes, end_in, end_unserved, high_in, low_in};
 
-use crate::doors::{NotServed, ServedParts, WorkersEnd, serve_doors};
+use crate::doors::{NotServed, ServedParts, Serving, WorkersEnd, serve_doors};
 use crate::starting::{start_high, start_low};
 use crate::watched::WatchedLow;
 use disk_model::{Disk, Role};
@@ -18,7 +17,7 @@ use passage::{Calm, WaitHighEnd, WaitLowEnd};
 use pump_frame::SessionRow;
 use pump_link::{Clock, Ports, Sink};
 use recovery::{Why, open_pump_waiting};
-use relay_ring::{RingHigh, RingLow, RingPassage};
+use relay_ring::RingPassage;
 use relay_side::RelaySide;
 use relay_threads::Watch;
 use std::alloc::Global;
@@ -48,6 +47,15 @@ pub struct Served<D> {
     pub high: D,
 }
 
+/// The two disks of a session, and the two ends of its passage.
+#[derive(Drop)]
+pub struct SessionParts<D, L, H> {
+    pub low: D,
+    pub high: D,
+    pub low_end: L,
+    pub high_end: H,
+}
+
 // How a session came to its end over the two ends of a passage.
 #[derive(Drop)]
 pub enum ServedOver<D, L, H> {
@@ -56,10 +64,7 @@ pub enum ServedOver<D, L, H> {
     // Both workers served, and ended so. The ends of the passage come back.
     Ended {
         ends: WorkersEnd,
-        low: D,
-        high: D,
-        low_end: L,
-        high_end: H,
+        parts: SessionParts<D, L, H>,
     },
 }
 
@@ -75,38 +80,39 @@ fn serve_over<
     V: Watch + Sync,
 >(
     rt: &T,
-    row: &SessionRow,
-    low: D,
-    high: D,
-    mut low_ends: L,
-    high_ends: H,
+    serving: &Serving<'_, V>,
+    parts: SessionParts<D, L, H>,
     low_side: &mut RelaySide<P, K>,
     high_side: &mut RelaySide<P, K>,
-    key: [u8; 32],
     tape: &mut O,
-    watch: &V,
-    rounds: u32,
 ) -> ServedOver<D, L, H>
 where
     P::Link: Send,
     P::Door: Send,
-    requires lawful { IsLawfulRow row.now }
-    requires shape { (L.shape low_ends).places ≡ row.now.capacity - 2 }
-    requires averages { IsEndOf L.stands L.shape low_ends row.now }
-    requires low_ends { L.stands low_ends new_low new_high }
-    requires high_ends { (l : Low) → H.stands high_ends l new_high }
+    requires lawful { IsLawfulRow serving.now.row.now }
+    requires shape { (L.shape parts.low_end).places ≡ serving.now.row.now.capacity - 2 }
+    requires averages { IsEndOf L.stands L.shape parts.low_end serving.now.row.now }
+    requires low_end { L.stands parts.low_end new_low new_high }
+    requires high_end { (l : Low) → H.stands parts.high_end l new_high }
     ensures ended { IfEndsBack result (λ ends low_end high_end. EndsAsDone (end_tells L.stands L.shape L.place)
-        (end_tells H.stands H.shape H.place) row.now low_ends high_ends low_end high_end
+        (end_tells H.stands H.shape H.place) serving.now.row.now parts.low_end parts.high_end low_end high_end
         (λ l h. (b : BothServed (doors P.Door.port P.Door.did P.Door.gives (links P.Link.gives P.Link.sent
-        P.Link.faults)) D.told row.now rounds key
+        P.Link.faults)) D.told serving.now.row.now serving.now.rounds serving.now.key
         (side P.did P.faults K.reads low_side.old low_side.new) (side P.did P.faults K.reads high_side.old
         high_side.new) (O.written tape.old) (O.written tape.new) (O.faults tape.old) (O.faults tape.new)
-        low high (low_in result) (high_in result) ends) × (b.l ≡ l) × (b.h ≡ h))) }
+        parts.low parts.high (low_in result) (high_in result) ends) × (b.l ≡ l) × (b.h ≡ h))) }
     ensures some_memory { end_in result ≡ SessionEnd.Memory → ⊥ }
-    ensures comes { SessionComes P.did P.faults D.told row.now low_side.old high_side.old low_side.new high_side.new
-        tape.old tape.new low high (low_in result) (high_in result) (end_in result) }
+    ensures comes { SessionComes P.did P.faults D.told serving.now.row.now low_side.old high_side.old low_side.new
+        high_side.new tape.old tape.new parts.low parts.high (low_in result) (high_in result) (end_in result) }
 {
-    let opened = match open_pump_waiting(rt, low, high, row, &mut low_ends) {
+    let row = serving.row;
+    let SessionParts {
+        low,
+        high,
+        mut low_end,
+        high_end,
+    } = parts;
+    let opened = match open_pump_waiting(rt, low, high, row, &mut low_end) {
         Ok(opened) => opened,
         Err(refused) => {
             return ServedOver::Unserved(Served {
@@ -119,26 +125,29 @@ where
             });
         }
     };
-    let low = start_low(row, opened.low, opened.next, opened.low_hand, low_ends, key);
-    let high = start_high(
+    let low = start_low(
         row,
-        opened.high,
-        opened.removed,
-        opened.high_hand,
-        high_ends,
+        opened.low,
+        opened.next,
+        opened.low_hand,
+        low_end,
+        serving.key,
     );
+    let high = start_high(row, opened.high, opened.removed, opened.high_hand, high_end);
     let ServedParts { ends, low, high } = serve_doors(
-        rt, row, low_side, high_side, low, high, tape, watch, rounds,
+        rt, serving, low_side, high_side, low, high, tape,
     );
     let low_disk = low.store.into_disk();
     let high_disk = high.store.into_disk();
     match ends {
         Ok(ends) => ServedOver::Ended {
             ends,
-            low: low_disk,
-            high: high_disk,
-            low_end: low.ends,
-            high_end: high.ends,
+            parts: SessionParts {
+                low: low_disk,
+                high: high_disk,
+                low_end: low.ends,
+                high_end: high.ends,
+            },
         },
         Err(why) => ServedOver::Unserved(Served {
             end: end_unserved(why),
@@ -154,83 +163,6 @@ fn end_unserved(why: NotServed) -> SessionEnd
     match why {
         NotServed::NoDoor => SessionEnd::NoDoor,
         NotServed::NoThread => SessionEnd::NoThread,
-    }
-}
-
-// Over the two ends of one ring, at which nothing was done yet. Where the workers ran, the ends are joined again.
-fn serve_ring<
-    T: Threads + Wait + Sync,
-    P: Ports + Send,
-    K: Clock + Send,
-    D: Disk + Send,
-    O: Sink + Send,
-    V: Watch + Sync,
->(
-    rt: &T,
-    row: &SessionRow,
-    low: D,
-    high: D,
-    low_ring: RingLow<'_>,
-    high_ring: RingHigh<'_>,
-    low_side: &mut RelaySide<P, K>,
-    high_side: &mut RelaySide<P, K>,
-    key: [u8; 32],
-    tape: &mut O,
-    watch: &V,
-    rounds: u32,
-) -> Served<D>
-where
-    P::Link: Send,
-    P::Door: Send,
-    requires lawful { IsLawfulRow row.now }
-    requires low { LowEndStands low_ring new_low new_high }
-    requires high { (l : Low) → HighEndStands high_ring l new_high }
-    requires place { low_place low_ring ≡ high_place high_ring }
-    requires low_shape { low_shape low_ring ≡ shape_of_row row.now }
-    requires high_shape { high_shape high_ring ≡ shape_of_row row.now }
-    ensures both { IfEnded result.end (λ ends. BothServed (doors P.Door.port P.Door.did P.Door.gives
-        (links P.Link.gives P.Link.sent P.Link.faults)) D.told row.now rounds key
-        (side P.did P.faults K.reads low_side.old low_side.new) (side P.did P.faults K.reads high_side.old
-        high_side.new) (O.written tape.old) (O.written tape.new) (O.faults tape.old) (O.faults tape.new)
-        low high result.low result.high ends) }
-    ensures some_memory { result.end ≡ SessionEnd.Memory → ⊥ }
-    ensures comes { SessionComes P.did P.faults D.told row.now low_side.old high_side.old low_side.new high_side.new
-        tape.old tape.new low high result.low result.high result.end }
-{
-    let low_end = WatchedLow {
-        ends: Calm(low_ring),
-        watch,
-    };
-    let served = serve_over(
-        rt,
-        row,
-        low,
-        high,
-        low_end,
-        Calm(high_ring),
-        low_side,
-        high_side,
-        key,
-        tape,
-        watch,
-        rounds,
-    );
-    match served {
-        ServedOver::Unserved(served) => served,
-        ServedOver::Ended {
-            ends,
-            low,
-            high,
-            low_end,
-            high_end,
-        } => {
-            RingPassage::rejoin(low_end.ends.0, high_end.0);
-            Served {
-                end: SessionEnd::Ended(ends),
-                low,
-                high,
-            }
-        }
     }
 }
 
@@ -286,8 +218,32 @@ where
             high,
         };
     };
-    let (low_end, high_end) = passage.ends();
-    serve_ring(
-        rt, row, low, high, low_end, high_end, low_side, high_side, key, tape, watch, rounds,
-    )
+    let (low_ring, high_ring) = passage.ends();
+    let parts = SessionParts {
+        low,
+        high,
+        low_end: WatchedLow {
+            ends: Calm(low_ring),
+            watch,
+        },
+        high_end: Calm(high_ring),
+    };
+    let serving = Serving {
+        row,
+        key,
+        watch,
+        rounds,
+    };
+    match serve_over(rt, &serving, parts, low_side, high_side, tape) {
+        ServedOver::Unserved(served) => served,
+        ServedOver::Ended { ends, parts } => {
+            // What both did at their ends keeps the law of one passage.
+            RingPassage::rejoin(parts.low_end.ends.0, parts.high_end.0);
+            Served {
+                end: SessionEnd::Ended(ends),
+                low: parts.low,
+                high: parts.high,
+            }
+        }
+    }
 }

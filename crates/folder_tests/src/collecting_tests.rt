@@ -1,4 +1,5 @@
-//! Tests of collectors over folders in memory: what is shown in the end, where a call failed and a crash came behind it.
+//! Tests of collectors over folders in memory: what is shown in the end, where a call failed and a crash came
+//! behind it.
 
 ghost use Rattle.std.specs.Prelude.{◌≤◌, length, IfSome};
 ghost use Rattle.disk_model.specs.Mem.{mem_meaning};

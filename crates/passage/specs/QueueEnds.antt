@@ -68,7 +68,9 @@ pub record HighEndStands (e : QueueHigh) (l : Low) (h : High) : Type 0 where
 
 -- the queue and the two cells
 abbrev pub low_place : QueueLow → List TableId
-low_place e = e.queue.now.table.shared.table_id ∷ e.low_cell.now.table.shared.table_id ∷ e.high_cell.now.table.shared.table_id ∷ []
+low_place e = e.queue.now.table.shared.table_id ∷ e.low_cell.now.table.shared.table_id
+    ∷ e.high_cell.now.table.shared.table_id ∷ []
 
 abbrev pub high_place : QueueHigh → List TableId
-high_place e = e.queue.now.table.shared.table_id ∷ e.low_cell.now.table.shared.table_id ∷ e.high_cell.now.table.shared.table_id ∷ []
+high_place e = e.queue.now.table.shared.table_id ∷ e.low_cell.now.table.shared.table_id
+    ∷ e.high_cell.now.table.shared.table_id ∷ []

@@ -1,7 +1,7 @@
 //! The lines of a script.
 
-ghost use Rattle.std.specs.Prelude.{◌≡◌, ℕ, ◌+◌, ◌^◌, ◌<◌, ◌≤◌, true, false, ◌&&◌, ◌||◌, not, ◌==◌, nat_lt, nat_le, length};
-ghost use Rattle.std.specs.Prelude.{Some};
+ghost use Rattle.std.specs.Prelude.{◌≡◌, ℕ, ◌+◌, ◌^◌, ◌<◌, ◌≤◌, true, false, ◌&&◌, ◌||◌, not, ◌==◌, nat_lt, nat_le};
+ghost use Rattle.std.specs.Prelude.{length, Some};
 ghost use Rattle.disk_model.specs.declared.name.Role.TheVariants as roles;
 ghost use Rattle.script_reader.specs.Lawful.{IsLawfulLine};
 ghost use Rattle.script_reader.specs.declared.line.Line.TheVariants as lines;

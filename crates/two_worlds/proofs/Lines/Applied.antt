@@ -15,7 +15,7 @@ use Rattle.two_worlds.specs.declared.pump.state.PumpState.TheVariants.{Open, Shu
 use Rattle.two_worlds.specs.States.{disks_in, IsOpenWith, StandsIn, RefusesAheadIn}
 use Rattle.two_worlds.specs.Rooms.{DisksGo}
 use Rattle.two_worlds.specs.Working.{IsAheadBy}
-use Rattle.two_worlds.specs.Private.StateSteps.{StateApplies, StateAppliesOn}
+use Rattle.two_worlds.specs.Private.StateSteps.{StateApplies, StateAppliesOn, StateTried}
 use Rattle.two_worlds.specs.Private.LineSteps.{AttemptsFrom, AttemptsOn, Tried}
 
 -- these are the parts before and after
@@ -43,27 +43,31 @@ module _ {D : Type 0} (m : Meaning D) (s t : PumpState D) (c d : Parts D) (was :
   applied_on printed (Err (Disk role why)) a = absurd a
 
   -- the line was tried, with this answer
-  module _ (printed : List Event) (result : Result (Unit {0}) Stop) (stop : Option Stop) (is : stop ≡ result_err result) (tried : Tried m c d line printed result) where
-    pub state_applies : (p : Past) → StandsIn m s p → StateApplies m s t line p printed stop
-    state_applies p stands = subst (λ (x : Option Stop). StateApplies m s t line p printed x) (sym is)
-        (applied p printed result (tried.attempts p (subst (λ (x : PumpState D). StandsIn m x p) was stands)))
-
-    pub state_applies_on : StateAppliesOn m s t line printed stop
-    state_applies_on = subst (λ (x : Option Stop). StateAppliesOn m s t line printed x) (sym is) (applied_on printed result tried.on)
-
-    -- a packet that is refused
-    pub state_ahead : RefusesAheadIn s t line [] printed
-    state_ahead = of_states (λ x y. RefusesAheadIn x y line [] printed) tried.ahead
-
-    pub state_serves : DisksGo m (disks_in s).row (disks_in s).low (disks_in s).high (disks_in s).recv (disks_in t).low (disks_in t).high (disks_in t).recv stop
-    state_serves =
-        subst (λ (x : Option Stop). DisksGo m (disks_in s).row (disks_in s).low (disks_in s).high (disks_in s).recv (disks_in t).low (disks_in t).high (disks_in t).recv x) (sym is)
-        (of_states (λ x y. DisksGo m (disks_in x).row (disks_in x).low (disks_in x).high (disks_in x).recv (disks_in y).low (disks_in y).high (disks_in y).recv (result_err result)) tried.serve)
-
-    pub state_row : (disks_in t).row ≡ (disks_in s).row
-    state_row = of_states (λ x y. (disks_in y).row ≡ (disks_in x).row) tried.row
+  pub state_tried : (printed : List Event) (result : Result (Unit {0}) Stop) (stop : Option Stop) → stop ≡ result_err result → Tried m c d line printed result → StateTried m s t line printed stop
+  state_tried printed result stop is tried =
+      subst (λ (x : Option Stop). StateTried m s t line printed x) (sym is)
+      (record {
+        applies = λ told p stands. applied p printed result (tried.attempts p (subst (λ (x : PumpState D). StandsIn m x p) was stands));
+        on = applied_on printed result tried.on;
+        ahead = of_states (λ x y. RefusesAheadIn x y line [] printed) tried.ahead;
+        serve = of_states (λ x y. DisksGo m (disks_in x).row (disks_in x).low (disks_in x).high (disks_in x).recv (disks_in y).low (disks_in y).high (disks_in y).recv (result_err result)) tried.serve;
+        row = of_states (λ x y. (disks_in y).row ≡ (disks_in x).row) tried.row;
+      })
 
 -- a line that brings no packet
 pub no_packet : {D : Type 0} (s : PumpState D) (line other : ScriptLine) → line ≡ other → ((c : Parts D) → IsAheadBy c other → ⊥) → IsOpenWith (λ c. IsAheadBy c line) s → ⊥
 no_packet (Open c) line other is none ahead = none c (subst (λ (l : ScriptLine). IsAheadBy c l) is ahead)
 no_packet (Shut d) line other is none ahead = ahead
+
+-- .. was carried out apart
+pub tried_apart : {D : Type 0} (m : Meaning D) (s t : PumpState D) (line other : ScriptLine) (printed : List Event) (stop : Option Stop) → line ≡ other → ((c : Parts D) → IsAheadBy c other → ⊥)
+    → (m.tells → (p : Past) → StandsIn m s p → StateApplies m s t other p printed stop) → StateAppliesOn m s t other printed stop
+    → DisksGo m (disks_in s).row (disks_in s).low (disks_in s).high (disks_in s).recv (disks_in t).low (disks_in t).high (disks_in t).recv stop → (disks_in t).row ≡ (disks_in s).row
+    → StateTried m s t line printed stop
+tried_apart m s t line other printed stop is none applies on serve row = record {
+  applies = λ told p stands. subst (λ (l : ScriptLine). StateApplies m s t l p printed stop) (sym is) (applies told p stands);
+  on = subst (λ (l : ScriptLine). StateAppliesOn m s t l printed stop) (sym is) on;
+  ahead = λ ahead. absurd (no_packet s line other is none ahead);
+  serve = serve;
+  row = row;
+}

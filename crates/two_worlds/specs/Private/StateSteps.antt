@@ -12,7 +12,8 @@ use Rattle.two_worlds.specs.declared.applied.Stop.TheVariants.{Line, Device, Ful
 use Rattle.two_worlds.specs.declared.pump.state.PumpState.{PumpState}
 use Rattle.two_worlds.specs.Doing.{Fails, LeavesFit}
 use Rattle.two_worlds.specs.Standing.{bare_disk}
-use Rattle.two_worlds.specs.States.{disks_in, is_down_in, IsOpenWith, StandsIn}
+use Rattle.two_worlds.specs.States.{disks_in, is_down_in, IsOpenWith, StandsIn, RefusesAheadIn}
+use Rattle.two_worlds.specs.Rooms.{DisksGo}
 use Rattle.two_worlds.specs.Timely.{CanApply, CannotApply, opens_again}
 use Rattle.two_worlds.specs.Working.{Works, IsTooLong}
 
@@ -46,3 +47,13 @@ StateAppliesOn m s t line printed (Some (Full end size_of_message size)) =
     IsOpenWith (λ c. CanApply c line) s × IsOpenWith (λ d. ∥ Works m d ∥₁ × IsTooLong d end size_of_message size) t
 StateAppliesOn m s t line printed (Some (Disk role why)) =
     IsOpenWith (λ c. CanApply c line) s × (opens_again line ≡ true) × (is_down_in t ≡ true) × (is_device why ≡ false)
+
+-- what is said of any line
+pub record StateTried {D : Type 0} (m : Meaning D) (s t : PumpState D) (line : ScriptLine) (printed : List Event)
+    (stop : Option Stop) : Type 0 where
+  pub applies : m.tells → (p : Past) → StandsIn m s p → StateApplies m s t line p printed stop
+  pub on : StateAppliesOn m s t line printed stop
+  pub ahead : RefusesAheadIn s t line [] printed
+  pub serve : DisksGo m (disks_in s).row (disks_in s).low (disks_in s).high (disks_in s).recv (disks_in t).low
+      (disks_in t).high (disks_in t).recv stop
+  pub row : (disks_in t).row ≡ (disks_in s).row

@@ -1,15 +1,13 @@
 //! Whether a pump is open.
 
-ghost use Rattle.std.specs.Prelude.{◌≡◌, []};
+ghost use Rattle.std.specs.Prelude.{◌≡◌};
 ghost use Rattle.script_reader.specs.Heads.{line_with, CanHoldLine};
 ghost use Rattle.script_reader.specs.Lawful.{IsLawfulLine};
-ghost use Rattle.script_reader.specs.Past.{Past};
 ghost use Rattle.two_worlds.specs.Printing.{lines_in};
-ghost use Rattle.two_worlds.specs.Rooms.{DisksGo};
 ghost use Rattle.two_worlds.specs.Standing.{bare_of};
-ghost use Rattle.two_worlds.specs.States.{disks_in, IsOpenWith, StandsIn, RefusesAheadIn};
+ghost use Rattle.two_worlds.specs.States.{disks_in, IsOpenWith};
 ghost use Rattle.two_worlds.specs.Working.{IsAble};
-ghost use Rattle.two_worlds.specs.Private.StateSteps.{StateApplies, StateAppliesOn};
+ghost use Rattle.two_worlds.specs.Private.StateSteps.{StateTried};
 
 use crate::applied::Stop;
 use crate::pump::parts::Parts;
@@ -72,15 +70,7 @@ impl<D: Disk> PumpState<D> {
         requires able { IsOpenWith (IsAble D.told) self.old }
         requires lawful { IsLawfulLine (line_with bytes.now line.now) }
         requires room { CanHoldLine line.now bytes.now }
-        ensures applies { D.told.tells → (p : Past) → StandsIn D.told self.old p
-            → StateApplies D.told self.old self.new (line_with bytes.now line.now) p (lines_in out.new.items) result }
-        ensures on { StateAppliesOn D.told self.old self.new (line_with bytes.now line.now) (lines_in out.new.items)
-            result }
-        ensures ahead { RefusesAheadIn self.old self.new (line_with bytes.now line.now) [] (lines_in out.new.items) }
-        ensures serve { DisksGo D.told (disks_in self.old).row (disks_in self.old).low (disks_in self.old).high
-            (disks_in self.old).recv
-            (disks_in self.new).low (disks_in self.new).high (disks_in self.new).recv result }
-        ensures row { (disks_in self.new).row ≡ (disks_in self.old).row }
+        ensures { StateTried D.told self.old self.new (line_with bytes.now line.now) (lines_in out.new.items) result }
     {
         match line {
             LineHead::Restart { session, moment } => self.restart(*session, *moment, out),

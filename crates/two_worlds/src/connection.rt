@@ -36,9 +36,10 @@ pub struct Connection {
     waits: WaitingList,
     /// Bad bytes were taken; what waits behind them is never offered.
     is_broken: bool,
-    reader: Reader,
+    // On the heap, as the room below: each has more than 1 KB, and a connection is moved as it is opened.
+    reader: Box<Reader>,
     // The last frame that raw bytes brought.
-    room: Frame,
+    room: Box<Frame>,
 }
 
 impl Model for Connection {
@@ -51,7 +52,7 @@ impl Model for Connection {
     ghost view = { λ c. record {
       waits = arrivals_of c.waits;
       is_broken = c.is_broken;
-      reading = c.reader;
+      reading = c.reader.value;
     } };
 
     ghost invariant = { λ c. AreLawful (arrivals_of c.waits) };
@@ -117,8 +118,8 @@ impl Connection {
         Ok(Connection {
             waits: WaitingList::new(alloc)?,
             is_broken: false,
-            reader: Reader::new(),
-            room: Frame::room(),
+            reader: Box::new(alloc, Reader::new())?,
+            room: Box::new(alloc, Frame::room())?,
         })
     }
 
@@ -145,11 +146,11 @@ impl Connection {
         let _stopped = self.reader.is_stopped();
         let before = self.waits.len();
         let mut reader = self.reader.duplicate();
-        if read_raw(&mut reader, bytes, &mut self.room, &mut self.waits) > 64 {
+        if read_raw(&mut reader, bytes, &mut *self.room, &mut self.waits) > 64 {
             self.waits.truncate(before);
             return false;
         }
-        self.reader = reader;
+        *self.reader = reader;
         true
     }
 
@@ -227,6 +228,6 @@ impl Connection {
     {
         self.waits.clear();
         self.is_broken = false;
-        self.reader = Reader::new();
+        *self.reader = Reader::new();
     }
 }

@@ -11,7 +11,7 @@ pub returns-in-Nothing : goal.returns-in-Nothing
 returns-in-Nothing c =
     let i = c.self.inside in
     subst (λ (t : Connected). Joins t t c.args.session (arriving_with c.args.bytes.now c.args.arriving.now) true) c.self.view_is
-    (joins_nothing i.waits i.is_broken i.reader c.args.session (arriving_with c.args.bytes.now c.args.arriving.now) c.len-waiting.result (ap (arriving_with c.args.bytes.now) c.in-Nothing.is) c.len-waiting.ensures.value c.len-waiting.ensures.fits)
+    (joins_nothing i.waits i.is_broken i.reader.value c.args.session (arriving_with c.args.bytes.now c.args.arriving.now) c.len-waiting.result (ap (arriving_with c.args.bytes.now) c.in-Nothing.is) c.len-waiting.ensures.value c.len-waiting.ensures.fits)
 
 pub returns-in-Hello : goal.returns-in-Hello
 returns-in-Hello c =

@@ -1,5 +1,5 @@
 -- How the comparison of two pumps ends, and what it leaves of their disks.
-use Rattle.std.proofs.Common.{◌≡◌, ◌⊎◌, inl, inr, ⊎_elim, ℕ, ◌≤◌, Bool, true, false, List, length, Option, Some, None, refl, sym, ap, ◌∙◌, subst, arith}
+use Rattle.std.proofs.Common.{◌≡◌, ◌⊎◌, inl, inr, ⊎_elim, ℕ, ◌≤◌, Bool, true, false, List, length, Option, Some, None, Result, Ok, Err, IfOk, IfErr, refl, sym, ap, ◌∙◌, subst, arith}
 use Rattle.disk_model.specs.Disk.{Meaning, Moves, Same}
 use Rattle.disk_model.specs.declared.name.Role.{Role}
 use Rattle.disk_model.specs.declared.name.Role.TheVariants as roles
@@ -17,7 +17,7 @@ use Rattle.stable_buffer.specs.Stands.{low_size}
 use Rattle.two_worlds.specs.declared.not_open.NotOpen.{NotOpen}
 use Rattle.two_worlds.specs.declared.pump.Pump.{Pump}
 use Rattle.world_laws.specs.Disks.{CrashesOpen}
-use Rattle.two_worlds.specs.Openings.{ComeBack}
+use Rattle.two_worlds.specs.Openings.{ComeBack, LeavesDisk}
 use Rattle.two_worlds.specs.Pumps.{disk_at, row_of}
 use Rattle.two_worlds.specs.Reads.{ReadsAlone, ReadsOn, FailsReading}
 use Rattle.two_worlds.specs.Rooms.{Serves, is_role}
@@ -26,7 +26,7 @@ use Rattle.two_worlds.proofs.Opening.Comparing.{goes_on, free_still, never_fails
 use Rattle.two_worlds.proofs.Opening.Refusing.{none_fails}
 use Rattle.pump_chain.specs.Compared.{IsUnlike, EndsReading, IsRead, AreRead}
 use Rattle.pump_chain.specs.Comparing.{Agree, IsUnlinked}
-use Rattle.pump_chain.specs.Opening.{trio_of, StandFor, HaveRoom, disk_in, is_failed, AreLeft, HandsBack, IsUnopened, IsApart, IsExcused, cause_of, is_by_device}
+use Rattle.pump_chain.specs.Opening.{trio_of, trio_back, StandFor, HaveRoom, disk_in, is_failed, AreLeft, HandsBack, IsUnopened, IsApart, IsExcused, cause_of, is_by_device}
 use Rattle.pump_chain.specs.declared.not_chained.ChainWhy.{ChainWhy}
 use Rattle.pump_chain.specs.declared.not_chained.ChainWhy.TheVariants as reasons
 use Rattle.pump_chain.specs.declared.six.Six.{Six}
@@ -161,6 +161,22 @@ module _ {D : Type 0} (m : Meaning D) where
   unopened_by row old e back None is = (let same = back.memory is in λ i. record { low = same.1 i; high = same.2 i; recv = same.3 i })
   unopened_by row old e back (Some why) is =
       (refl, subst (λ (x : NotOpen D). ComeBack m row old.low old.high old.recv x) (λ i. record { role = e.role; why = is i; low = e.low; high = e.high; recv = e.recv }) back)
+
+  pub unopened_if : {g : _} (row : SessionRow) (old : Trio D) (r : Result (Pump D g) (NotOpen D)) → IfErr r (λ e. ComeBack m row old.low old.high old.recv e)
+      → IfErr r (λ e. IsUnopened m row old (trio_back e) (cause_of row.id e.role e.why))
+  unopened_if row old (Ok s) back = tt
+  unopened_if row old (Err e) back = unopened_by row old e back e.why refl
+
+  -- .. and these are its disks and the cause
+  pub not_opened : (row : SessionRow) (old new back : Trio D) (why cause : ChainWhy) → new ≡ back → why ≡ cause → IsUnopened m row old back cause → IsUnopened m row old new why
+  not_opened row old new back why cause same is un = subst (λ (x : Trio D × ChainWhy). IsUnopened m row old x.0 x.1) (λ i. (sym same i, sym is i)) un
+
+  -- a pump is opened, and leaves its disks
+  pub left_if : {g : _} (row : SessionRow) (old : Trio D) (r : Result (Pump D g) (NotOpen D)) → IfOk r (λ s. LeavesDisk m row roles.Low old.low (disk_at roles.Low s) false)
+      → IfOk r (λ s. LeavesDisk m row roles.High old.high (disk_at roles.High s) false) → IfOk r (λ s. LeavesDisk m row roles.Recv old.recv (disk_at roles.Recv s) false)
+      → IfOk r (λ s. AreLeft m row old (trio_of s) None)
+  left_if row old (Ok s) low high recv = record { low = low; high = high; recv = recv }
+  left_if row old (Err e) low high recv = tt
 
   -- a pump was opened on these disks, and closed
   pub closed_back : {g : _} (row : SessionRow) (old new : Trio D) (s : Pump D g) → new ≡ trio_of s → (m.tells → (f : Found) × StandFor m row old f) → AreLeft m row old (trio_of s) None → row_of s ≡ row

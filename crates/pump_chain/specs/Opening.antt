@@ -9,6 +9,7 @@ use Rattle.recovery.specs.declared.trio.Trio.{Trio}
 use Rattle.recovery.specs.declared.why.Why.{Why}
 use Rattle.recovery.specs.declared.why.Why.TheVariants.{Device}
 use Rattle.script_reader.specs.Openings.{Found, accepted_in, first_past}
+use Rattle.two_worlds.specs.declared.not_open.NotOpen.{NotOpen}
 use Rattle.two_worlds.specs.declared.pump.Pump.{Pump}
 use Rattle.world_laws.specs.Disks.{CrashesOpen}
 use Rattle.two_worlds.specs.Openings.{DisksStandFor, LeavesDisk, ComeBack}
@@ -33,6 +34,10 @@ first_chained one f two h = record {
 
 abbrev pub trio_of : {D : Type 0} {g : _} → Pump D g → Trio D
 trio_of pump = record { low = disk_at roles.Low pump; high = disk_at roles.High pump; recv = disk_at roles.Recv pump }
+
+-- those of a pump that is not opened
+abbrev pub trio_back : {D : Type 0} → NotOpen D → Trio D
+trio_back e = record { low = e.low; high = e.high; recv = e.recv }
 
 -- the disk of a role
 abbrev pub disk_in : {D : Type 0} → Role → Trio D → D

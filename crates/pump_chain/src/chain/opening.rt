@@ -4,7 +4,7 @@ ghost use Rattle.std.specs.Prelude.{◌≡◌, ◌≤◌, false, None, IfOk, IfE
 ghost use Rattle.pump_chain.specs.Chained.{Chained, unsent};
 ghost use Rattle.pump_chain.specs.Compared.{AreRead, IsRead};
 ghost use Rattle.pump_chain.specs.Comparing.{IsUnlinked};
-ghost use Rattle.pump_chain.specs.Opening.{first_chained, trio_of, StandFor, HaveRoom, AreLeft, IsUnopened};
+ghost use Rattle.pump_chain.specs.Opening.{first_chained, trio_of, trio_back, StandFor, HaveRoom, AreLeft, IsUnopened};
 ghost use Rattle.pump_chain.specs.Opening.{ComeBackFor, IsExcused, cause_of, is_by_device};
 ghost use Rattle.pump_chain.specs.Standing.{ChainStands, ChainStandsOrFails, chain_is_down};
 ghost use Rattle.pump_core.specs.Lawful.{IsPrefixOf};
@@ -23,14 +23,11 @@ use disk_model::{Disk, Role};
 use pump_frame::SessionRow;
 use recovery::{Trio, Why};
 use std::alloc::Global;
-use two_worlds::Pump;
+use two_worlds::{NotOpen, Pump};
 
-// The pump of a session, or why there is none, and its disks.
-fn open_one<D: Disk>(
-    alloc: Global,
-    row: &SessionRow,
-    disks: Trio<D>,
-) -> Result<Pump<D>, (ChainWhy, Trio<D>)>
+// The pump of a session, or why there is none, and its disks. The answer is handed on as it is: a pump has
+// several KB, and is moved no more often than it has to be.
+fn open_one<D: Disk>(alloc: Global, row: &SessionRow, disks: Trio<D>) -> Result<Pump<D>, NotOpen<D>>
     requires lawful { IsLawfulRow row.now }
     ensures found { IfOk result (λ pump. D.told.tells → (f : Found) × StandFor D.told row.now disks f) }
     ensures stands { IfOk result (λ pump. D.told.tells → (f : Found) → StandFor D.told row.now disks f
@@ -38,21 +35,23 @@ fn open_one<D: Disk>(
     ensures row { IfOk result (λ pump. row_of pump ≡ row.now) }
     ensures up { IfOk result (λ pump. is_down pump ≡ false) }
     ensures left { IfOk result (λ pump. AreLeft D.told row.now disks (trio_of pump) None) }
-    ensures back { IfErr result (λ e. IsUnopened D.told row.now disks e.1 e.0) }
-    ensures stops { IfErr result (λ e. D.told.tells → (f : Found) → StandFor D.told row.now disks f → IsExcused e.0) }
+    ensures back { IfErr result (λ e. IsUnopened D.told row.now disks (trio_back e) (cause_of row.now.id e.role e.why)) }
+    ensures stops { IfErr result (λ e. D.told.tells → (f : Found) → StandFor D.told row.now disks f
+        → IsExcused (cause_of row.now.id e.role e.why)) }
     ensures room { D.told.tells_plan → HaveRoom D.told row.now disks
         → IfOk result (λ pump. HaveRoom D.told row.now (trio_of pump)) }
 {
-    match Pump::open(alloc, row, disks.low, disks.high, disks.recv) {
-        Ok(pump) => Ok(pump),
-        Err(refused) => {
-            let disks = Trio {
-                low: refused.low,
-                high: refused.high,
-                recv: refused.recv,
-            };
-            Err((cause(row.id, refused.role, refused.why), disks))
-        }
+    Pump::open(alloc, row, disks.low, disks.high, disks.recv)
+}
+
+// The disks of a pump that is not opened.
+fn given_back<D: Disk>(refused: NotOpen<D>) -> Trio<D>
+    ensures { result ≡ trio_back refused }
+{
+    Trio {
+        low: refused.low,
+        high: refused.high,
+        recv: refused.recv,
     }
 }
 
@@ -170,7 +169,9 @@ impl<D: Disk> Chain<D> {
     {
         let first = match open_one(alloc, one, disks.first) {
             Ok(pump) => pump,
-            Err((why, first)) => {
+            Err(refused) => {
+                let why = cause(one.id, refused.role, refused.why);
+                let first = given_back(refused);
                 let second = disks.second;
                 return Err(NotChained {
                     disks: Six { first, second },
@@ -180,7 +181,9 @@ impl<D: Disk> Chain<D> {
         };
         let second = match open_one(alloc, two, disks.second) {
             Ok(pump) => pump,
-            Err((why, second)) => {
+            Err(refused) => {
+                let why = cause(two.id, refused.role, refused.why);
+                let second = given_back(refused);
                 let first = close_one(first);
                 return Err(NotChained {
                     disks: Six { first, second },

@@ -5,10 +5,10 @@ use Rattle.script_reader.specs.Openings.{first_past}
 use Rattle.two_worlds.specs.declared.pump.Pump.{Pump}
 use Rattle.world_laws.specs.Disks.{CrashesOpen}
 use Rattle.two_worlds.specs.Pumps.{StandsFor, row_of}
-use Rattle.pump_chain.specs.Opening.{trio_of, HaveRoom, AreLeft, IsApart}
+use Rattle.pump_chain.specs.Opening.{trio_of, HaveRoom, AreLeft, IsApart, IsExcused}
 use Rattle.pump_chain.specs.declared.six.Six.{Six}
 use Rattle.pump_chain.specs.Standing.{IsSentOn}
-use Rattle.pump_chain.proofs.Ending.{Closes, apart_by, closed_back, excused_by, left_then, never_apart, never_unopened, room_read, rows_by}
+use Rattle.pump_chain.proofs.Ending.{Closes, apart_by, closed_back, excused_by, left_then, never_apart, never_unopened, not_opened, room_read, rows_by}
 use Rattle.pump_chain.proofs.chain.Chain.open.Goals as goal
 
 pub returns-in-Ok-compare-clause-stands : goal.returns-in-Ok-compare-clause-stands
@@ -63,27 +63,29 @@ returns-in-Ok-compare-clause-room g c = λ plan room more.
     (room_read m plan one made.first now.first first e.read.0, room_read m plan two made.second now.second second e.read.1)
 
 pub returns-in-Err-clause-back : goal.returns-in-Err-clause-back
-returns-in-Err-clause-back g c = inl (c.in-Err.ensures.back, refl)
+returns-in-Err-clause-back g c = inl (not_opened g.D.Disk.told c.args.one.now c.args.disks.first _ _ _ _ c.given_back-first.ensures c.cause-why.ensures c.in-Err.ensures.back, refl)
 
 pub returns-in-Err-clause-stops : goal.returns-in-Err-clause-stops
-returns-in-Err-clause-stops g c = λ told f h F H prefix. c.in-Err.ensures.stops told f F
+returns-in-Err-clause-stops g c = λ told f h F H prefix. subst IsExcused (sym c.cause-why.ensures) (c.in-Err.ensures.stops told f F)
 
 pub returns-in-Err-clause-never : goal.returns-in-Err-clause-never
-returns-in-Err-clause-never g c = λ plan room more. never_unopened g.D.Disk.told plan c.args.one.now c.args.disks.first c.in-Err.first room c.in-Err.why c.in-Err.ensures.back
+returns-in-Err-clause-never g c = λ plan room more. never_unopened g.D.Disk.told plan c.args.one.now c.args.disks.first c.given_back-first.result room c.cause-why.result
+    (not_opened g.D.Disk.told c.args.one.now c.args.disks.first _ _ _ _ c.given_back-first.ensures c.cause-why.ensures c.in-Err.ensures.back)
 
 pub returns-in-Err-open_one-clause-back : goal.returns-in-Err-open_one-clause-back
 returns-in-Err-open_one-clause-back g c =
     let made = c.in-Ok.ensures in
     inr (inl (
       closed_back g.D.Disk.told c.args.one.now c.args.disks.first c.close_one-first.result c.in-Ok.pump c.close_one-first.ensures.disks made.found made.left made.row c.close_one-first.ensures.crashes,
-      c.in-Err-open_one.ensures.back,
+      not_opened g.D.Disk.told c.args.two.now c.args.disks.second _ _ _ _ c.given_back-second.ensures c.cause-why-in-Err-open_one.ensures c.in-Err-open_one.ensures.back,
     ))
 
 pub returns-in-Err-open_one-clause-stops : goal.returns-in-Err-open_one-clause-stops
-returns-in-Err-open_one-clause-stops g c = λ told f h F H prefix. c.in-Err-open_one.ensures.stops told h H
+returns-in-Err-open_one-clause-stops g c = λ told f h F H prefix. subst IsExcused (sym c.cause-why-in-Err-open_one.ensures) (c.in-Err-open_one.ensures.stops told h H)
 
 pub returns-in-Err-open_one-clause-never : goal.returns-in-Err-open_one-clause-never
-returns-in-Err-open_one-clause-never g c = λ plan room more. never_unopened g.D.Disk.told plan c.args.two.now c.args.disks.second c.in-Err-open_one.second more c.in-Err-open_one.why c.in-Err-open_one.ensures.back
+returns-in-Err-open_one-clause-never g c = λ plan room more. never_unopened g.D.Disk.told plan c.args.two.now c.args.disks.second c.given_back-second.result more c.cause-why-in-Err-open_one.result
+    (not_opened g.D.Disk.told c.args.two.now c.args.disks.second _ _ _ _ c.given_back-second.ensures c.cause-why-in-Err-open_one.ensures c.in-Err-open_one.ensures.back)
 
 pub returns-in-Err-compare-clause-back : goal.returns-in-Err-compare-clause-back
 returns-in-Err-compare-clause-back g c =

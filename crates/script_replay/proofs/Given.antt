@@ -1,5 +1,5 @@
 -- A line was given to the session that it names, which has begun, and the session printed what it prints.
-use Rattle.std.proofs.Common.{◌≡◌, ◌≢◌, ℕ, false, true, List, ◌++◌, max, slice_get, Option, None, Some, inr, refl, sym, ap, ◌∙◌}
+use Rattle.std.proofs.Common.{◌≡◌, ◌≢◌, ℕ, [], false, true, List, ◌++◌, max, slice_get, Option, None, Some, inr, refl, sym, ap, ◌∙◌}
 use Rattle.std.specs.Prelude.{◌||◌, not}
 use Rattle.std.specs.Vec.{with_item}
 use Rattle.disk_model.specs.Disk.{Meaning}
@@ -11,7 +11,7 @@ use Rattle.script_reader.specs.declared.event.Event.{Event}
 use Rattle.script_reader.specs.declared.line.Line.{Line}
 use Rattle.script_reader.specs.declared.line.Line.TheVariants as lines
 use Rattle.script_reader.specs.Scripts.{RunningAlone, Begun, Alone}
-use Rattle.script_reader.specs.Sessions.{session_in, stands_first, moment_of, is_in_turn, Sessions as Script}
+use Rattle.script_reader.specs.Sessions.{session_in, stands_first, moment_of, is_in_turn, ScriptRefuses, Sessions as Script}
 use Rattle.script_reader.specs.Transcript.{text}
 use Rattle.two_worlds.specs.declared.applied.Stop.{Stop}
 use Rattle.two_worlds.specs.declared.applied.Stop.TheVariants as stops
@@ -25,8 +25,9 @@ use Rattle.script_replay.specs.Outputs.{held_of, Gathers}
 use Rattle.script_replay.specs.Runners.{AllAreUp, outcome_of, StopsByLine, GoesSo, IsDeviceOutcomeOf, FreshAfter}
 use Rattle.script_replay.specs.Sessions.{id_of, IsUp, StandsFor, SessionApplies, GoesOnWith, FailedWith, with_begun, IsPlaced, AreInOrder, AllStandFor}
 use Rattle.script_replay.specs.Shelves.{Places}
+use Rattle.script_replay.proofs.Gathered.{gathers_none}
 use Rattle.script_replay.proofs.Listed.{order_item, under_way_so}
-use Rattle.script_replay.proofs.Told.{goes_made}
+use Rattle.script_replay.proofs.Told.{goes_made, refused_made}
 use Rattle.script_replay.proofs.Turns.{gone_on, not_written, up_so, remembers, failed_so, id_x, there_own, is_put, lends_last, up_last, failed_last, rise_last, line_does, hands_of}
 
 pub some_named : (line : Line) (number : ℕ) → session_in line ≡ Some number → line ≢ lines.Skip
@@ -96,3 +97,19 @@ module _ {S D : Type 0} {g : Ghosts D} (m : Holdings S) (d : Meaning D) (shelf :
         (λ tells r stands. not_written d t r line printed stop (held_of first.output) (held_of last.output) old new (applies tells r stands) prefix)
         (λ s stands. not_written d t (Alone s) line printed stop (held_of first.output) (held_of last.output) old new (alone s stands) prefix)
         (λ e. cc) (λ e. cc) tt (λ k role h. absurd h)
+
+-- ---- a line that goes to no session that has begun, or makes one coarse: it prints nothing ----
+
+module _ {S D : Type 0} {g : Ghosts D} (m : Holdings S) (d : Meaning D) (line : Line) (first : Replaying D g) (written : Option (List ℕ)) (order : AreInOrder first.sessions) where
+  pub refused_goes : (shelf : S) → ((t : Script) → AllStandFor d first.sessions t → ScriptRefuses t line) → LineGoes m d shelf shelf first first written written line outcomes.Refused
+  refused_goes shelf refuses = record {
+    order = order;
+    does = λ told tells before lends t stand. ([], (refuses t stand, refl, stand.each, lends), gathers_none (held_of first.output) written);
+    fresh = λ told tells before fresh. tt;
+    hands = λ before lends. hands_of m.tells d before (m.disk shelf) first.sessions.begun.items lends;
+    ready = λ e. absurd (cc);
+    quiet = record { waits = λ e. e; quiet = λ e. absurd (cc); memory = λ e. absurd (cc) };
+    stops = tt;
+    device = λ number role h. absurd h;
+    told = λ lines all. refused_made d first.sessions lines line;
+  }

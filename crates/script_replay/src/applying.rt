@@ -1,25 +1,22 @@
 //! A line of a script: of the session that it names, or that it begins.
 
-ghost use Rattle.std.specs.Prelude.{◌≡◌, ◌≢◌, ◌<◌, ◌≤◌, ℕ, true, false, List, [], ◌∷◌, length, None, Some, IfOk, IfErr};
-ghost use Rattle.std.specs.Prelude.{vec_len};
+ghost use Rattle.std.specs.Prelude.{◌≡◌, ◌≢◌, ◌≤◌, ℕ, true, false, List, Option, [], ◌∷◌, None, Some, IfOk, IfErr};
 ghost use Rattle.disk_model.specs.declared.name.Role.{Role as DiskRole};
 ghost use Rattle.pump_frame.specs.Counts.{Rose};
 ghost use Rattle.pump_frame.specs.Rows.{IsLawfulRow};
 ghost use Rattle.script_reader.specs.Grammar.{IsCount};
 ghost use Rattle.script_reader.specs.Lawful.{IsLawfulLine};
 ghost use Rattle.script_reader.specs.Heads.{line_with, CanHoldLine};
-ghost use Rattle.script_reader.specs.Sessions.{Sessions as Script, no_sessions, session_in, begins_session as begins};
-ghost use Rattle.script_reader.specs.Sessions.{stands_first as is_first, is_in_turn};
-ghost use Rattle.script_replay.specs.Sessions.{id_of, IsUp, StandsFor, LendsNew};
-ghost use Rattle.script_replay.specs.Sessions.{found_at, IsPlaced, AreInOrder, AllStandFor, AllLend};
+ghost use Rattle.script_reader.specs.Sessions.{no_sessions, session_in, begins_session as begins};
+ghost use Rattle.script_reader.specs.Sessions.{stands_first as is_first};
+ghost use Rattle.script_replay.specs.Sessions.{id_of, IsUp, LendsNew, AreInOrder, AllStandFor};
 ghost use Rattle.script_replay.specs.Failing.{FailsAt};
 ghost use Rattle.script_replay.specs.Shelves.{Places, AllAreBack, LeavesOtherSessions};
 ghost use Rattle.script_replay.specs.Outputs.{held_of};
-ghost use Rattle.script_replay.specs.Applied.{LineGoes};
-ghost use Rattle.script_replay.specs.Runners.{AllAreUp, outcome_of, outcome_at, Begins, BeginDoes};
-ghost use Rattle.script_replay.specs.Runners.{AllHandOver, IsDeviceOutcomeOf, AllFresh};
-ghost use Rattle.script_replay.specs.Runners.{StartsFresh, FreshAfter, StopsByLine, IsOfBeginning};
-ghost use Rattle.script_replay.specs.Told.{IsMadeBy, AllAreMadeBy, GoesAsTold};
+ghost use Rattle.script_replay.specs.Applied.{ComesFor, LineGoes};
+ghost use Rattle.script_replay.specs.Runners.{AllAreUp, outcome_of, outcome_at, Begins};
+ghost use Rattle.script_replay.specs.Runners.{StartsFresh, StopsByLine, IsOfBeginning, IsDeviceOutcomeOf};
+ghost use Rattle.script_replay.specs.Told.{IsMadeBy};
 
 use crate::disks::{put_disks_back, take_disks};
 use crate::outcome::{Outcome, outcome_at, outcome_of, untaken};
@@ -33,6 +30,32 @@ use pump_link::Sink;
 use script_reader::{Body, EventHead, Line, LineHead, begins_session, session_of, stands_first};
 use std::alloc::{AllocError, Global};
 use two_worlds::Pump;
+
+/// What a replay keeps while its script runs.
+pub struct Replaying<D: Disk> {
+    pub alloc: Global,
+    pub sessions: Sessions<D>,
+    /// What the last line printed.
+    pub events: ArrayVec<EventHead, 4>,
+    pub output: Output,
+}
+
+impl<D: Disk> Replaying<D> {
+    /// No line has come yet.
+    pub fn new(alloc: Global) -> Result<Replaying<D>, AllocError>
+        ensures none { IfOk result (λ replaying. replaying.sessions.begun.items ≡ []) }
+        ensures stands { IfOk result (λ replaying. AllStandFor D.told replaying.sessions no_sessions) }
+        ensures order { IfOk result (λ replaying. AreInOrder replaying.sessions) }
+        ensures unheld { IfOk result (λ replaying. held_of replaying.output ≡ []) }
+    {
+        Ok(Replaying {
+            alloc,
+            sessions: Sessions::new(alloc)?,
+            events: ArrayVec::new(),
+            output: Output::new(),
+        })
+    }
+}
 
 /// Opens the session of a row over its three disks. They come off the shelf, and are back on it where
 /// it is not opened.
@@ -145,52 +168,25 @@ fn begin<S: Shelf>(
 
 /// A line that may come now, of the session that is to stand at this place but does not yet.
 fn begin_session<S: Shelf>(
-    alloc: Global,
+    replaying: &mut Replaying<S::Disk>,
     shelf: &mut S,
-    sessions: &mut Sessions<S::Disk>,
     place: usize,
     line: &LineHead,
     body: &Body,
 ) -> Outcome
     requires lawful { IsLawfulLine (line_with body.now line.now) }
-    requires some { line_with body.now line.now ≢ Line.Skip }
-    requires order { AreInOrder sessions.old }
-    requires up { AllAreUp sessions.old.begun.items }
-    requires place { place ≤ vec_len sessions.old.begun }
-    requires named { (number : ℕ) × (session_in (line_with body.now line.now) ≡ Some number) }
-    requires first { begins (line_with body.now line.now) ≡ true → (sessions.old.is_under_way ≡ false)
-        × (length sessions.old.begun.items < 16) }
-    requires placed { (number : ℕ) → session_in (line_with body.now line.now) ≡ Some number
-        → IsPlaced number place sessions.old.begun.items false }
-    ensures order { AreInOrder sessions.new }
-    ensures does { S.told.tells → S.Disk.told.tells → (before : Places)
-        → AllLend S.Disk.told before (S.told.disk shelf.old) sessions.old.begun.items
-        → (t : Script) → AllStandFor S.Disk.told sessions.old t → is_in_turn t (line_with body.now line.now) ≡ true
-        → BeginDoes S.Disk.told before (S.told.disk shelf.new) t (line_with body.now line.now) sessions.new result }
-    ensures fresh { S.told.tells → S.Disk.told.tells → (before : Places)
-        → AllFresh S.Disk.told before (S.told.disk shelf.old) sessions.old.begun.items
-        → FreshAfter S.Disk.told before (S.told.disk shelf.new) sessions.new result }
-    ensures hands { (before : Places) → AllLend S.Disk.told before (S.told.disk shelf.old) sessions.old.begun.items
-        → AllHandOver S.told.tells S.Disk.told before (S.told.disk shelf.new) sessions.new.begun.items }
-    ensures goes { result ≡ Outcome.Applied → (before : Places)
-        → AllLend S.Disk.told before (S.told.disk shelf.old) sessions.old.begun.items
-        → AllLend S.Disk.told before (S.told.disk shelf.new) sessions.new.begun.items
-        × AllAreUp sessions.new.begun.items }
-    ensures waits { sessions.old.is_under_way ≡ true → sessions.new.is_under_way ≡ true }
-    ensures memory { result ≡ Outcome.Memory → sessions.old.is_under_way ≡ false }
-    ensures line { StopsByLine result }
+    requires order { AreInOrder replaying.old.sessions }
+    requires up { AllAreUp replaying.old.sessions.begun.items }
+    requires comes { ComesFor S.Disk.told replaying.old.sessions place false (line_with body.now line.now) }
+    ensures goes { (written : Option (List ℕ)) → LineGoes S.told S.Disk.told shelf.old shelf.new replaying.old
+        replaying.new written written (line_with body.now line.now) result }
     ensures written { result ≡ Outcome.Unwritten → ⊥ }
-    ensures device { (number : ℕ) (role : DiskRole) → IsDeviceOutcomeOf number role result
-        → (found_at number sessions.old.begun.items ≡ None) × (found_at number sessions.new.begun.items ≡ None)
-        × FailsAt S.told S.Disk.told shelf.old shelf.new number role }
     ensures disks_later { S.told.disk_faults shelf.old ≤ S.told.disk_faults shelf.new }
-    ensures told { (lines : List Line) → AllAreMadeBy S.Disk.told sessions.old lines
-        → GoesAsTold S.Disk.told sessions.new lines (line_with body.now line.now) result }
 {
-    match begin(alloc, shelf, line, body) {
+    match begin(replaying.alloc, shelf, line, body) {
         Ok(session) => {
-            sessions.insert(place, session);
-            sessions.note_applied(line, place);
+            replaying.sessions.insert(place, session);
+            replaying.sessions.note_applied(line, place);
             Outcome::Applied
         }
         Err(outcome) => outcome,
@@ -199,74 +195,31 @@ fn begin_session<S: Shelf>(
 
 /// A line that stands first and may come now, of the session at this place: it makes it coarse, unless
 /// it is coarse already or the line is to begin it. It prints nothing.
-fn coarsen_at<D: Disk>(
-    sessions: &mut Sessions<D>,
+fn coarsen_at<S: Shelf>(
+    replaying: &mut Replaying<S::Disk>,
     place: usize,
     line: &LineHead,
     body: &Body,
 ) -> Outcome
     requires first { is_first (line_with body.now line.now) ≡ true }
-    requires order { AreInOrder sessions.old }
-    requires up { AllAreUp sessions.old.begun.items }
-    requires place { place < vec_len sessions.old.begun }
-    requires placed { (number : ℕ) → session_in (line_with body.now line.now) ≡ Some number
-        → IsPlaced number place sessions.old.begun.items true }
-    requires named { (number : ℕ) × (session_in (line_with body.now line.now) ≡ Some number) }
-    ensures order { AreInOrder sessions.new }
-    ensures does { (before now : Places) → AllLend D.told before now sessions.old.begun.items
-        → (t : Script) → AllStandFor D.told sessions.old t → is_in_turn t (line_with body.now line.now) ≡ true
-        → BeginDoes D.told before now t (line_with body.now line.now) sessions.new result }
-    ensures fresh { (before now : Places) → AllFresh D.told before now sessions.old.begun.items
-        → FreshAfter D.told before now sessions.new result }
-    ensures lends { (before now : Places) → AllLend D.told before now sessions.old.begun.items
-        → AllLend D.told before now sessions.new.begun.items }
-    ensures up { AllAreUp sessions.new.begun.items }
-    ensures waits { sessions.old.is_under_way ≡ true → sessions.new.is_under_way ≡ true }
-    ensures line { StopsByLine result }
-    ensures memory { result ≡ Outcome.Memory → ⊥ }
+    requires order { AreInOrder replaying.old.sessions }
+    requires up { AllAreUp replaying.old.sessions.begun.items }
+    requires comes { ComesFor S.Disk.told replaying.old.sessions place true (line_with body.now line.now) }
+    ensures goes { (shelf : _) (written : Option (List ℕ)) → LineGoes S.told S.Disk.told shelf shelf replaying.old
+        replaying.new written written (line_with body.now line.now) result }
     ensures written { result ≡ Outcome.Unwritten → ⊥ }
-    ensures device { (number : ℕ) (role : DiskRole) → IsDeviceOutcomeOf number role result → ⊥ }
-    ensures told { sessions.old.is_under_way ≡ false
-        → (lines : List Line) → AllAreMadeBy D.told sessions.old lines
-        → GoesAsTold D.told sessions.new lines (line_with body.now line.now) result }
 {
     // What makes a session coarse has no body.
     let _bytes = body;
     if begins_session(line) {
         return Outcome::Refused;
     }
-    if sessions.begun[place].is_coarse() {
+    if replaying.sessions.begun[place].is_coarse() {
         return Outcome::Refused;
     }
-    sessions.begun[place].make_coarse();
-    sessions.note_applied(line, place);
+    replaying.sessions.begun[place].make_coarse();
+    replaying.sessions.note_applied(line, place);
     Outcome::Applied
-}
-
-/// What a replay keeps while its script runs.
-pub struct Replaying<D: Disk> {
-    pub alloc: Global,
-    pub sessions: Sessions<D>,
-    /// What the last line printed.
-    pub events: ArrayVec<EventHead, 4>,
-    pub output: Output,
-}
-
-impl<D: Disk> Replaying<D> {
-    /// No line has come yet.
-    pub fn new(alloc: Global) -> Result<Replaying<D>, AllocError>
-        ensures none { IfOk result (λ replaying. replaying.sessions.begun.items ≡ []) }
-        ensures stands { IfOk result (λ replaying. AllStandFor D.told replaying.sessions no_sessions) }
-        ensures order { IfOk result (λ replaying. AreInOrder replaying.sessions) }
-        ensures unheld { IfOk result (λ replaying. held_of replaying.output ≡ []) }
-    {
-        Ok(Replaying {
-            alloc,
-            sessions: Sessions::new(alloc)?,
-            events: ArrayVec::new(),
-            output: Output::new(),
-        })
-    }
 }
 
 /// A line of the script.
@@ -296,17 +249,10 @@ pub fn apply<S: Shelf, O: Sink>(
     }
     let place = replaying.sessions.place_of(number);
     if !replaying.sessions.is_at(place, number) {
-        return begin_session(
-            replaying.alloc,
-            shelf,
-            &mut replaying.sessions,
-            place,
-            line,
-            body,
-        );
+        return begin_session(replaying, shelf, place, line, body);
     }
     if stands_first(line) {
-        return coarsen_at(&mut replaying.sessions, place, line, body);
+        return coarsen_at::<S>(replaying, place, line, body);
     }
     let session = &mut replaying.sessions.begun[place];
     let stop = session.apply(line, body, &mut replaying.events);

@@ -1,14 +1,12 @@
-use Rattle.std.proofs.Common.{◌≡◌, ◌<◌, ℕ, length, true, false, Some, refl, sym, ◌∙◌, subst, arith}
+use Rattle.std.proofs.Common.{◌<◌, length, refl, sym, ◌∙◌, arith}
 use Rattle.std.specs.Vec.{with_item}
 use Rattle.script_reader.specs.Heads.{line_with}
 use Rattle.two_worlds.specs.Printing.{lines_in}
 use Rattle.script_replay.specs.Outputs.{held_of}
-use Rattle.script_replay.specs.Sessions.{IsPlaced}
 use Rattle.script_replay.proofs.Given.{given_printed, given_unwritten, some_named}
 use Rattle.script_replay.proofs.Listed.{at_slice, set_here, within_so, under_way_so}
-use Rattle.script_replay.proofs.Numbered.{place_least}
 use Rattle.script_replay.proofs.Told.{skip_made}
-use Rattle.script_replay.proofs.Turns.{up_there, hands_of, begin_turn, skips, fails_from}
+use Rattle.script_replay.proofs.Turns.{up_there, hands_of, skips}
 use Rattle.script_replay.proofs.applying.apply.Goals as goal
 
 pub returns-in-None-clause-goes : goal.returns-in-None-clause-goes
@@ -26,78 +24,31 @@ returns-in-None-clause-goes g c =
       told = λ lines all. skip_made g.S.Disk.Disk.told c.args.replaying.now.sessions lines (line_with c.args.body.now c.args.line.now) none all;
     }
 
-pub begin_session-requires-clause-place : goal.begin_session-requires-clause-place
-begin_session-requires-clause-place g c =
-    let least = place_least c.in-Some.number c.args.replaying.now.sessions.begun.items in
-    let is = c.place_of-place.ensures in
-    let len = c.args.replaying.now.sessions.begun.ok.0 in
-    omega (arith, least, is, len)
-
-pub begin_session-requires-clause-placed : goal.begin_session-requires-clause-placed
-begin_session-requires-clause-placed g c = λ number named.
-    let both : Some c.in-Some.number ≡ Some number = sym (c.session_of.ensures c.args.body.now ∙ c.in-Some.is) ∙ named in
-    let same : c.in-Some.number ≡ number = cc in
-    subst (λ (n : ℕ). IsPlaced n c.place_of-place.result c.args.replaying.now.sessions.begun.items false) same (c.place_of-place.ensures, sym c.is_at.ensures ∙ c.if-not-is_at.true)
-
-pub begin_session-requires-clause-named : goal.begin_session-requires-clause-named
-begin_session-requires-clause-named g c = (c.in-Some.number, (c.session_of.ensures c.args.body.now ∙ c.in-Some.is))
-
-pub begin_session-requires-clause-some : goal.begin_session-requires-clause-some
-begin_session-requires-clause-some g c = (some_named (line_with c.args.body.now c.args.line.now) c.in-Some.number (c.session_of.ensures c.args.body.now ∙ c.in-Some.is))
-
-pub begin_session-requires-clause-first : goal.begin_session-requires-clause-first
-begin_session-requires-clause-first g c = c.is_in_turn.ensures.first c.args.body.now c.if-not-is_in_turn.false
+pub begin_session-requires-clause-comes : goal.begin_session-requires-clause-comes
+begin_session-requires-clause-comes g c = record {
+  number = c.in-Some.number;
+  named = c.session_of.ensures c.args.body.now ∙ c.in-Some.is;
+  placed = (c.place_of-place.ensures, sym c.is_at.ensures ∙ c.if-not-is_at.true);
+  in_turn = λ t stand. c.is_in_turn.ensures.may c.args.body.now t stand ∙ c.if-not-is_in_turn.false;
+  begins = c.is_in_turn.ensures.first c.args.body.now c.if-not-is_in_turn.false;
+  first = c.is_in_turn.ensures.way c.args.body.now c.if-not-is_in_turn.false;
+}
 
 pub returns-then-not-is_at-clause-goes : goal.returns-then-not-is_at-clause-goes
-returns-then-not-is_at-clause-goes g c =
-    let does = c.begin_session.ensures in
-    record {
-      order = does.order;
-      does = λ told tells before lends t stand.
-          begin_turn g.S.Disk.Disk.told before (g.S.Shelf.told.disk c.begin_session.new.shelf) t (line_with c.args.body.now c.args.line.now) c.begin_session.new.sessions (held_of c.args.replaying.now.output) _ c.begin_session.result
-          (does.does told tells before lends t stand (c.is_in_turn.ensures.may c.args.body.now t stand ∙ c.if-not-is_in_turn.false));
-      fresh = does.fresh;
-      hands = does.hands;
-      ready = does.goes;
-      quiet = record { waits = does.waits; quiet = λ e off. (refl, refl); memory = λ e. (does.memory e, refl, refl) };
-      stops = does.line;
-      device = λ number role h before lends.
-          let fails = does.device number role h in
-          fails_from g.S.Shelf.told g.S.Disk.Disk.told before c.args.shelf.now c.begin_session.new.shelf c.args.replaying.now.sessions.begun.items c.begin_session.new.sessions.begun.items number role fails.0 fails.1 lends fails.2;
-      told = does.told;
-    }
+returns-then-not-is_at-clause-goes g c = c.begin_session.ensures.goes (g.O.Sink.written c.args.out.now)
 
-pub coarsen_at-requires-clause-place : goal.coarsen_at-requires-clause-place
-coarsen_at-requires-clause-place g c =
-    let low = within_so c.in-Some.number c.place_of-place.result c.args.replaying.now.sessions.begun.items (sym c.is_at.ensures ∙ c.if-not-is_at.false) in
-    let len = c.args.replaying.now.sessions.begun.ok.0 in
-    omega (arith, low, len)
-
-pub coarsen_at-requires-clause-placed : goal.coarsen_at-requires-clause-placed
-coarsen_at-requires-clause-placed g c = λ number named.
-    let both : Some c.in-Some.number ≡ Some number = sym (c.session_of.ensures c.args.body.now ∙ c.in-Some.is) ∙ named in
-    let same : c.in-Some.number ≡ number = cc in
-    subst (λ (n : ℕ). IsPlaced n c.place_of-place.result c.args.replaying.now.sessions.begun.items true) same (c.place_of-place.ensures, sym c.is_at.ensures ∙ c.if-not-is_at.false)
-
-pub coarsen_at-requires-clause-named : goal.coarsen_at-requires-clause-named
-coarsen_at-requires-clause-named g c = (c.in-Some.number, (c.session_of.ensures c.args.body.now ∙ c.in-Some.is))
+pub coarsen_at-requires-clause-comes : goal.coarsen_at-requires-clause-comes
+coarsen_at-requires-clause-comes g c = record {
+  number = c.in-Some.number;
+  named = c.session_of.ensures c.args.body.now ∙ c.in-Some.is;
+  placed = (c.place_of-place.ensures, sym c.is_at.ensures ∙ c.if-not-is_at.false);
+  in_turn = λ t stand. c.is_in_turn.ensures.may c.args.body.now t stand ∙ c.if-not-is_in_turn.false;
+  begins = c.is_in_turn.ensures.first c.args.body.now c.if-not-is_in_turn.false;
+  first = c.is_in_turn.ensures.way c.args.body.now c.if-not-is_in_turn.false;
+}
 
 pub returns-then-stands_first-clause-goes : goal.returns-then-stands_first-clause-goes
-returns-then-stands_first-clause-goes g c =
-    let does = c.coarsen_at.ensures in
-    record {
-      order = does.order;
-      does = λ told tells before lends t stand.
-          begin_turn g.S.Disk.Disk.told before (g.S.Shelf.told.disk c.args.shelf.now) t (line_with c.args.body.now c.args.line.now) c.coarsen_at.new.sessions (held_of c.args.replaying.now.output) _ c.coarsen_at.result
-          (does.does before (g.S.Shelf.told.disk c.args.shelf.now) lends t stand (c.is_in_turn.ensures.may c.args.body.now t stand ∙ c.if-not-is_in_turn.false));
-      fresh = λ told tells before fresh. does.fresh before (g.S.Shelf.told.disk c.args.shelf.now) fresh;
-      hands = λ before lends. hands_of g.S.Shelf.told.tells g.S.Disk.Disk.told before (g.S.Shelf.told.disk c.args.shelf.now) c.coarsen_at.new.sessions.begun.items (does.lends before (g.S.Shelf.told.disk c.args.shelf.now) lends);
-      ready = λ e before lends. (does.lends before (g.S.Shelf.told.disk c.args.shelf.now) lends, does.up);
-      quiet = record { waits = does.waits; quiet = λ e off. (refl, refl); memory = λ e. absurd (does.memory e) };
-      stops = does.line;
-      device = λ number role h. absurd (does.device number role h);
-      told = does.told (c.is_in_turn.ensures.way c.args.body.now c.if-not-is_in_turn.false (c.stands_first.ensures c.args.body.now ∙ c.if-stands_first.true));
-    }
+returns-then-stands_first-clause-goes g c = c.coarsen_at.ensures.goes c.args.shelf.now (g.O.Sink.written c.args.out.now)
 
 pub index_mut-session-requires : goal.index_mut-session-requires
 index_mut-session-requires g c =

@@ -222,7 +222,8 @@ fn coarsen_at<S: Shelf>(
     Outcome::Applied
 }
 
-/// A line of the script.
+/// Applies a line of the script to the session that it names, or begins that one. What it prints is added
+/// to the output.
 pub fn apply<S: Shelf, O: Sink>(
     replaying: &mut Replaying<S::Disk>,
     shelf: &mut S,

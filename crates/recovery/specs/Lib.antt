@@ -12,3 +12,4 @@ pub mod Readings
 pub mod Refills
 pub mod Refusals
 pub mod Surveys
+pub mod Writings

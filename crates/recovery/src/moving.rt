@@ -1,18 +1,15 @@
 // Moving the disks of a session to new ones.
 ghost use Rattle.std.specs.Prelude.{◌≡◌, ◌+◌, ◌^◌, ◌<◌, ◌≤◌, ℕ, List, [], length, true, false, None, Some, IfOk, OnOk};
 ghost use Rattle.std.specs.Prelude.{IfErr};
-ghost use Rattle.std.specs.List.{All};
 ghost use Rattle.pump_frame.specs.Rows.{IsLawfulRow};
 ghost use Rattle.disk_model.specs.Disk.{Moves, Same, Settled};
-ghost use Rattle.disk_model.specs.declared.name.Role.TheVariants.{Low as LowRole, High as HighRole, Recv as RecvRole};
 ghost use Rattle.stable_buffer.specs.Register.{value_of};
-ghost use Rattle.stable_buffer.specs.Stands.{LowStands, HighStands};
+ghost use Rattle.stable_buffer.specs.Stands.{LowStands};
 ghost use Rattle.stable_buffer.specs.Log.{RecvStands};
 ghost use Rattle.recovery.specs.Calls.{is_device};
 ghost use Rattle.recovery.specs.Refusals.{or_else};
-ghost use Rattle.recovery.specs.Moves.{StandFor, AreFound, IsMoveRefused, IsKept, IsMade, Counted, is_blamed, disk_at};
-ghost use Rattle.recovery.specs.Moves.{first_full, first_unfit, AreWritten, AreWrittenInTurn, low_bytes, high_bytes};
-ghost use Rattle.recovery.specs.Fillings.{IsMadeFrom};
+ghost use Rattle.recovery.specs.Moves.{StandFor, AreFound, IsMoveRefused, disk_at, first_full, first_unfit, AreWritten};
+ghost use Rattle.recovery.specs.Writings.{AreKept, AreCounted, StandMoved, AreFilled, AreMade};
 ghost use Rattle.recovery.specs.declared.trio.MoveFault.{MoveFault};
 ghost use Rattle.recovery.specs.declared.why.Why.TheVariants.{Device};
 
@@ -58,12 +55,8 @@ fn check_all<D: Disk>(
         (first_unfit to.now counts.now.removed live received) ≡ Some f) }
     ensures device { IfErr result (λ f. is_device f.why ≡ true
         → f.why ≡ Device (D.told.count (disk_at old.new new.new f.new f.role))) }
-    ensures old_low { IsKept D.told old.old.low old.new.low (is_blamed false LowRole result) }
-    ensures old_high { IsKept D.told old.old.high old.new.high (is_blamed false HighRole result) }
-    ensures old_recv { IsKept D.told old.old.recv old.new.recv (is_blamed false RecvRole result) }
-    ensures new_low { IsKept D.told new.old.low new.new.low (is_blamed true LowRole result) }
-    ensures new_high { IsKept D.told new.old.high new.new.high (is_blamed true HighRole result) }
-    ensures new_recv { IsKept D.told new.old.recv new.new.recv (is_blamed true RecvRole result) }
+    ensures old_disks { AreKept D.told false old.old old.new result }
+    ensures new_disks { AreKept D.told true new.old new.new result }
 {
     check_empty(new)?;
     check_fit(old, from, to, counts)?;
@@ -88,49 +81,12 @@ fn write_all<D: Disk>(
     requires received { counts.now.received ≤ counts.now.accepted }
     requires end { (80 ≤ counts.now.end) × (counts.now.end < 2 ^ 64) }
 
-    ensures low { OnOk result (D.told.tells → (live : List (List ℕ))
-        → LowStands from.now counts.now.accepted counts.now.removed live (D.told.reading old.old.low)
-        → All (λ message. length message ≤ to.now.message) live
-        → LowStands to.now counts.now.accepted counts.now.removed live (D.told.reading new.new.low)) }
-    ensures high { OnOk result (D.told.tells → HighStands to.now counts.now.removed (D.told.reading new.new.high)) }
-    ensures recv { OnOk result (D.told.tells → (received : List (List ℕ))
-        → RecvStands from.now received (D.told.reading old.old.recv)
-        → value_of (D.told.reading old.old.recv) ≡ (counts.now.received, counts.now.end)
-        → All (λ message. length message ≤ to.now.message) received
-        → RecvStands to.now received (D.told.reading new.new.recv)) }
-    ensures bytes { OnOk result (D.told.tells → (live : List (List ℕ))
-        → LowStands from.now counts.now.accepted counts.now.removed live (D.told.reading old.old.low)
-        → All (λ message. length message ≤ to.now.message) live
-        → value_of (D.told.reading old.old.recv) ≡ (counts.now.received, counts.now.end)
-        → AreWritten to.now counts.now.accepted counts.now.removed counts.now.received live
-        (D.told.reading old.old.recv)
-        (D.told.reading new.new.low) (D.told.reading new.new.high) (D.told.reading new.new.recv)) }
-    ensures turn { (live : List (List ℕ)) → (D.told.tells
-        → LowStands from.now counts.now.accepted counts.now.removed live (D.told.reading old.old.low))
-        → (D.told.tells → All (λ message. length message ≤ to.now.message) live)
-        → AreWrittenInTurn D.told (low_bytes to.now counts.now.accepted counts.now.removed live)
-        (high_bytes to.now counts.now.removed)
-        new.old new.new result }
-    ensures settled { OnOk result (Settled D.told new.new.low × Settled D.told new.new.high
-        × Settled D.told new.new.recv) }
-    ensures made_low { (live : List (List ℕ)) → (D.told.tells
-        → LowStands from.now counts.now.accepted counts.now.removed live (D.told.reading old.old.low))
-        → (D.told.tells → All (λ message. length message ≤ to.now.message) live)
-        → IsMadeFrom D.told (LowStands to.now counts.now.accepted counts.now.removed live) new.old.low new.new.low }
-    ensures made_high { IsMadeFrom D.told (HighStands to.now counts.now.removed) new.old.high new.new.high }
-    ensures made_recv { (received : List (List ℕ)) → (D.told.tells
-        → RecvStands from.now received (D.told.reading old.old.recv))
-        → (D.told.tells → value_of (D.told.reading old.old.recv) ≡ (counts.now.received, counts.now.end))
-        → (D.told.tells → All (λ message. length message ≤ to.now.message) received)
-        → IsMadeFrom D.told (RecvStands to.now received) new.old.recv new.new.recv }
+    ensures moved { OnOk result (StandMoved D.told from.now to.now counts.now old.old new.new) }
+    ensures made { AreFilled D.told from.now to.now counts.now old.old new.old new.new result }
     ensures device { IfErr result (λ f. (is_device f.why ≡ true)
         × (f.why ≡ Device (D.told.count (disk_at old.new new.new f.new f.role)))) }
-    ensures old_low { IsKept D.told old.old.low old.new.low (is_blamed false LowRole result) }
-    ensures old_high { IsKept D.told old.old.high old.new.high (is_blamed false HighRole result) }
-    ensures old_recv { IsKept D.told old.old.recv old.new.recv (is_blamed false RecvRole result) }
-    ensures new_low { Counted D.told new.old.low new.new.low (is_blamed true LowRole result) }
-    ensures new_high { Counted D.told new.old.high new.new.high (is_blamed true HighRole result) }
-    ensures new_recv { Counted D.told new.old.recv new.new.recv (is_blamed true RecvRole result) }
+    ensures old_disks { AreKept D.told false old.old old.new result }
+    ensures new_disks { AreCounted D.told new.old new.new result }
 {
     write_low(&mut old.low, &mut new.low, from, to, counts)?;
     write_high(&mut new.high, to, counts)?;
@@ -184,12 +140,8 @@ pub fn migrate<D: Disk>(
         → f.why ≡ Device (D.told.count (disk_at result.old result.new f.new f.role))) }
 
     // No old disk is written, and a new one only where nothing is refused.
-    ensures old_low { IsKept D.told old.low result.old.low (is_blamed false LowRole result.end) }
-    ensures old_high { IsKept D.told old.high result.old.high (is_blamed false HighRole result.end) }
-    ensures old_recv { IsKept D.told old.recv result.old.recv (is_blamed false RecvRole result.end) }
-    ensures new_low { Counted D.told new.low result.new.low (is_blamed true LowRole result.end) }
-    ensures new_high { Counted D.told new.high result.new.high (is_blamed true HighRole result.end) }
-    ensures new_recv { Counted D.told new.recv result.new.recv (is_blamed true RecvRole result.end) }
+    ensures old_disks { AreKept D.told false old result.old result.end }
+    ensures new_disks { AreCounted D.told new result.new result.end }
     ensures unwritten { D.told.tells → (f : MoveFault)
         → IsMoveRefused from.now to.now size (D.told.reading old.low) (D.told.reading old.high)
         (D.told.reading old.recv)
@@ -203,25 +155,12 @@ pub fn migrate<D: Disk>(
         → Moves D.told Same new.low result.new.low × Moves D.told Same new.high result.new.high
         × Moves D.told Same new.recv result.new.recv }
 
-    // The new disks are written in turn.
-    ensures turn { (E B : ℕ) (live received : List (List ℕ))
+    // The new disks are written in turn. A crash at any moment leaves of each no buffer, or one that
+    // stands for just this.
+    ensures made { (E B : ℕ) (live received : List (List ℕ))
         → StandFor from.now E B live received (D.told.reading old.low) (D.told.reading old.high)
         (D.told.reading old.recv)
-        → AreWrittenInTurn D.told (low_bytes to.now E B live) (high_bytes to.now B) new result.new result.end }
-
-    // A crash at any moment leaves of each new disk no buffer, or one that stands for just this.
-    ensures made_low { (E B : ℕ) (live received : List (List ℕ))
-        → StandFor from.now E B live received (D.told.reading old.low) (D.told.reading old.high)
-        (D.told.reading old.recv)
-        → IsMade D.told (LowStands to.now E B live) new.low result.new.low }
-    ensures made_high { (E B : ℕ) (live received : List (List ℕ))
-        → StandFor from.now E B live received (D.told.reading old.low) (D.told.reading old.high)
-        (D.told.reading old.recv)
-        → IsMade D.told (HighStands to.now B) new.high result.new.high }
-    ensures made_recv { (E B : ℕ) (live received : List (List ℕ))
-        → StandFor from.now E B live received (D.told.reading old.low) (D.told.reading old.high)
-        (D.told.reading old.recv)
-        → IsMade D.told (RecvStands to.now received) new.recv result.new.recv }
+        → AreMade D.told to.now E B live received new result.new result.end }
 {
     let surveyed = survey(from, old, size);
     let mut old = surveyed.disks;

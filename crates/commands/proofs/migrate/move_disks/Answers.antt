@@ -11,7 +11,7 @@ returns-clause-stops g c =
     let e = c.migrate-moved.ensures in
     let m = c.migrate-moved.result in
     let says : Says g.D.Disk.told c.args.row.now c.args.new_row.now c.trio.result c.trio-2.result m.old m.new m.end =
-    record { refused = e.exact; low = e.old_low; high = e.old_high; recv = e.old_recv; new_low = e.new_low; new_high = e.new_high; new_recv = e.new_recv; unwritten = e.unwritten; turn = e.turn; full = e.full } in
+    record { refused = e.exact; low = e.old_disks.low; high = e.old_disks.high; recv = e.old_disks.recv; new_low = e.new_disks.low; new_high = e.new_disks.high; new_recv = e.new_disks.recv; unwritten = e.unwritten; turn = λ E B live received stand. (e.made E B live received stand).turn; full = e.full } in
     stops g.D.Disk.told c.args.row.now c.args.new_row.now c.args.old c.args.new c.taken.result c.taken-2.result c.trio.result c.trio-2.result m.old m.new m.end
     c.trio.ensures c.trio-2.ensures c.taken.ensures c.taken-2.ensures says c.counted.result c.counted.ensures
 
@@ -20,6 +20,6 @@ returns-clause-spared g c =
     let e = c.migrate-moved.ensures in
     let m = c.migrate-moved.result in
     let says : Says g.D.Disk.told c.args.row.now c.args.new_row.now c.trio.result c.trio-2.result m.old m.new m.end =
-    record { refused = e.exact; low = e.old_low; high = e.old_high; recv = e.old_recv; new_low = e.new_low; new_high = e.new_high; new_recv = e.new_recv; unwritten = e.unwritten; turn = e.turn; full = e.full } in
+    record { refused = e.exact; low = e.old_disks.low; high = e.old_disks.high; recv = e.old_disks.recv; new_low = e.new_disks.low; new_high = e.new_disks.high; new_recv = e.new_disks.recv; unwritten = e.unwritten; turn = λ E B live received stand. (e.made E B live received stand).turn; full = e.full } in
     spared g.D.Disk.told c.args.row.now c.args.new_row.now c.args.old c.args.new c.taken.result c.taken-2.result c.trio.result c.trio-2.result m.old m.new m.end
     c.trio.ensures c.trio-2.ensures c.taken.ensures c.taken-2.ensures says

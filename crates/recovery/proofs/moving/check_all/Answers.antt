@@ -39,12 +39,16 @@ returns-in_err-check_empty g c =
       unfit = rw (is) tt;
       exact = rw (is) fact;
       device = rw (is) device;
-      old_low = rw (is) (old_kept m Low f old.low old.low side (kept_still m old.low));
-      old_high = rw (is) (old_kept m High f old.high old.high side (kept_still m old.high));
-      old_recv = rw (is) (old_kept m Recv f old.recv old.recv side (kept_still m old.recv));
-      new_low = rw (is) e.low;
-      new_high = rw (is) e.high;
-      new_recv = rw (is) e.recv;
+      old_disks = record {
+        low = rw (is) (old_kept m Low f old.low old.low side (kept_still m old.low));
+        high = rw (is) (old_kept m High f old.high old.high side (kept_still m old.high));
+        recv = rw (is) (old_kept m Recv f old.recv old.recv side (kept_still m old.recv));
+      };
+      new_disks = record {
+        low = rw (is) e.low;
+        high = rw (is) e.high;
+        recv = rw (is) e.recv;
+      };
     }
 
 pub returns-in_err-check_fit : goal.returns-in_err-check_fit
@@ -77,12 +81,16 @@ returns-in_err-check_fit g c =
       unfit = rw (is) tt;
       exact = rw (is) fact;
       device = rw (is) device;
-      old_low = rw (is) k.low;
-      old_high = rw (is) k.high;
-      old_recv = rw (is) k.recv;
-      new_low = rw (is) (new_kept m Low f new.low seen.low side e.low);
-      new_high = rw (is) (new_kept m High f new.high seen.high side e.high);
-      new_recv = rw (is) (new_kept m Recv f new.recv seen.recv side e.recv);
+      old_disks = record {
+        low = rw (is) k.low;
+        high = rw (is) k.high;
+        recv = rw (is) k.recv;
+      };
+      new_disks = record {
+        low = rw (is) (new_kept m Low f new.low seen.low side e.low);
+        high = rw (is) (new_kept m High f new.high seen.high side e.high);
+        recv = rw (is) (new_kept m Recv f new.recv seen.recv side e.recv);
+      };
     }
 
 pub returns : goal.returns
@@ -103,10 +111,14 @@ returns g c =
       unfit = k.fine;
       exact = tt;
       device = tt;
-      old_low = k.low;
-      old_high = k.high;
-      old_recv = k.recv;
-      new_low = e.low;
-      new_high = e.high;
-      new_recv = e.recv;
+      old_disks = record {
+        low = k.low;
+        high = k.high;
+        recv = k.recv;
+      };
+      new_disks = record {
+        low = e.low;
+        high = e.high;
+        recv = e.recv;
+      };
     }

@@ -39,23 +39,29 @@ returns-in-Err g c =
       exact = λ fine told. inl (IfErr-at_err (λ (e : MoveFault). is_device e.why ≡ false → m.tells → (e.new ≡ false)
           × AreRefused from size (m.reading old.low) (m.reading old.high) (m.reading old.recv) e.role e.why) is said.refused fine told);
       device = λ broken. subst (λ b. f.why ≡ Device (m.count (disk_at mid new b f.role))) (sym (device broken).0) (device broken).1;
-      old_low = subst (λ r. IsKept m old.low mid.low (is_blamed false Low r)) is said.low;
-      old_high = subst (λ r. IsKept m old.high mid.high (is_blamed false High r)) is said.high;
-      old_recv = subst (λ r. IsKept m old.recv mid.recv (is_blamed false Recv r)) is said.recv;
-      new_low = not_blamed m Low f new.low of_old;
-      new_high = not_blamed m High f new.high of_old;
-      new_recv = not_blamed m Recv f new.recv of_old;
+      old_disks = record {
+        low = subst (λ r. IsKept m old.low mid.low (is_blamed false Low r)) is said.low;
+        high = subst (λ r. IsKept m old.high mid.high (is_blamed false High r)) is said.high;
+        recv = subst (λ r. IsKept m old.recv mid.recv (is_blamed false Recv r)) is said.recv;
+      };
+      new_disks = record {
+        low = not_blamed m Low f new.low of_old;
+        high = not_blamed m High f new.high of_old;
+        recv = not_blamed m Recv f new.recv of_old;
+      };
       unwritten = λ told e refused. (same new.low, same new.high, same new.recv);
       full = λ told not_empty. (same new.low, same new.high, same new.recv);
-      turn = λ E B live received stand. record {
-        at_low = λ low. (same new.high, same new.recv);
-        at_high = λ high. same new.recv;
-        high = λ told. inl (same new.high);
-        recv = λ told. inl (same new.recv);
+      made = λ E B live received stand. record {
+        turn = record {
+          at_low = λ low. (same new.high, same new.recv);
+          at_high = λ high. same new.recv;
+          high = λ told. inl (same new.high);
+          recv = λ told. inl (same new.recv);
+        };
+        low = made_same m (LowStands to E B live) new.low new.low (same new.low);
+        high = made_same m (HighStands to B) new.high new.high (same new.high);
+        recv = made_same m (RecvStands to received) new.recv new.recv (same new.recv);
       };
-      made_low = λ E B live received stand. made_same m (LowStands to E B live) new.low new.low (same new.low);
-      made_high = λ E B live received stand. made_same m (HighStands to B) new.high new.high (same new.high);
-      made_recv = λ E B live received stand. made_same m (RecvStands to received) new.recv new.recv (same new.recv);
     }
 
 pub returns-in-Err-check_all : goal.returns-in-Err-check_all
@@ -90,23 +96,29 @@ returns-in-Err-check_all g c =
                 (said.low.moves.reads told) (said.recv.moves.reads told) (refused.exact fine told) live received found count end,
           );
       device = refused.device;
-      old_low = kept_on m Low end k old.low mid.low read.low _ c.in-Ok.is said.low refused.old_low;
-      old_high = kept_on m High end k old.high mid.high read.high _ c.in-Ok.is said.high refused.old_high;
-      old_recv = kept_on m Recv end k old.recv mid.recv read.recv _ c.in-Ok.is said.recv refused.old_recv;
-      new_low = refused.new_low.counted;
-      new_high = refused.new_high.counted;
-      new_recv = refused.new_recv.counted;
-      unwritten = λ told e is. (refused.new_low.moves, refused.new_high.moves, refused.new_recv.moves);
-      full = λ told not_empty. (refused.new_low.moves, refused.new_high.moves, refused.new_recv.moves);
-      turn = λ E B live received stand. record {
-        at_low = λ low. (refused.new_high.moves, refused.new_recv.moves);
-        at_high = λ high. refused.new_recv.moves;
-        high = λ told. inl refused.new_high.moves;
-        recv = λ told. inl refused.new_recv.moves;
+      old_disks = record {
+        low = kept_on m Low end k old.low mid.low read.low _ c.in-Ok.is said.low refused.old_disks.low;
+        high = kept_on m High end k old.high mid.high read.high _ c.in-Ok.is said.high refused.old_disks.high;
+        recv = kept_on m Recv end k old.recv mid.recv read.recv _ c.in-Ok.is said.recv refused.old_disks.recv;
       };
-      made_low = λ E B live received stand. made_same m (LowStands to E B live) new.low seen.low refused.new_low.moves;
-      made_high = λ E B live received stand. made_same m (HighStands to B) new.high seen.high refused.new_high.moves;
-      made_recv = λ E B live received stand. made_same m (RecvStands to received) new.recv seen.recv refused.new_recv.moves;
+      new_disks = record {
+        low = refused.new_disks.low.counted;
+        high = refused.new_disks.high.counted;
+        recv = refused.new_disks.recv.counted;
+      };
+      unwritten = λ told e is. (refused.new_disks.low.moves, refused.new_disks.high.moves, refused.new_disks.recv.moves);
+      full = λ told not_empty. (refused.new_disks.low.moves, refused.new_disks.high.moves, refused.new_disks.recv.moves);
+      made = λ E B live received stand. record {
+        turn = record {
+          at_low = λ low. (refused.new_disks.high.moves, refused.new_disks.recv.moves);
+          at_high = λ high. refused.new_disks.recv.moves;
+          high = λ told. inl refused.new_disks.high.moves;
+          recv = λ told. inl refused.new_disks.recv.moves;
+        };
+        low = made_same m (LowStands to E B live) new.low seen.low refused.new_disks.low.moves;
+        high = made_same m (HighStands to B) new.high seen.high refused.new_disks.high.moves;
+        recv = made_same m (RecvStands to received) new.recv seen.recv refused.new_disks.recv.moves;
+      };
     }
 
 pub returns-in-Err-write_all : goal.returns-in-Err-write_all
@@ -127,8 +139,8 @@ returns-in-Err-write_all g c =
     let checked = c.in_default.ensures in
     let done = c.in-Err-write_all.ensures in
     let s : IsSurveyed m from size k old = IfOk-at_ok (λ n. IsSurveyed m from size n old) c.in-Ok.is said.found in
-    let low_same : m.tells → m.reading read.low ≡ m.reading old.low = λ told. checked.old_low.moves.reads told ∙ said.low.moves.reads told in
-    let recv_same : m.tells → m.reading read.recv ≡ m.reading old.recv = λ told. checked.old_recv.moves.reads told ∙ said.recv.moves.reads told in
+    let low_same : m.tells → m.reading read.low ≡ m.reading old.low = λ told. checked.old_disks.low.moves.reads told ∙ said.low.moves.reads told in
+    let recv_same : m.tells → m.reading read.recv ≡ m.reading old.recv = λ told. checked.old_disks.recv.moves.reads told ∙ said.recv.moves.reads told in
     let j : (E B : ℕ) (live received : List (List ℕ)) → StandFor from E B live received (m.reading old.low) (m.reading old.high) (m.reading old.recv) → m.tells → IsJust m from size k old E B live received = λ E B live received stand told.
     just m from size k old c.requires.from s told E B live received stand in
     let fits : (live received : List (List ℕ)) → length received ≡ k.received → (value_of (m.reading old.recv)).1 ≡ k.end
@@ -146,38 +158,42 @@ returns-in-Err-write_all g c =
       fine = tt;
       exact = λ fine told. absurd (let broken = done.device.0 in cc);
       device = λ broken. done.device.1;
-      old_low = kept_after m old.low read.low c.write_all.new.old.low _ (kept_on m Low end k old.low mid.low read.low false c.in-Ok.is said.low checked.old_low) done.old_low;
-      old_high = kept_after m old.high read.high c.write_all.new.old.high _ (kept_on m High end k old.high mid.high read.high false c.in-Ok.is said.high checked.old_high) done.old_high;
-      old_recv = kept_after m old.recv read.recv c.write_all.new.old.recv _ (kept_on m Recv end k old.recv mid.recv read.recv false c.in-Ok.is said.recv checked.old_recv) done.old_recv;
-      new_low = counted_after m new.low seen.low written.low _ checked.new_low done.new_low;
-      new_high = counted_after m new.high seen.high written.high _ checked.new_high done.new_high;
-      new_recv = counted_after m new.recv seen.recv written.recv _ checked.new_recv done.new_recv;
+      old_disks = record {
+        low = kept_after m old.low read.low c.write_all.new.old.low _ (kept_on m Low end k old.low mid.low read.low false c.in-Ok.is said.low checked.old_disks.low) done.old_disks.low;
+        high = kept_after m old.high read.high c.write_all.new.old.high _ (kept_on m High end k old.high mid.high read.high false c.in-Ok.is said.high checked.old_disks.high) done.old_disks.high;
+        recv = kept_after m old.recv read.recv c.write_all.new.old.recv _ (kept_on m Recv end k old.recv mid.recv read.recv false c.in-Ok.is said.recv checked.old_disks.recv) done.old_disks.recv;
+      };
+      new_disks = record {
+        low = counted_after m new.low seen.low written.low _ checked.new_disks.low done.new_disks.low;
+        high = counted_after m new.high seen.high written.high _ checked.new_disks.high done.new_disks.high;
+        recv = counted_after m new.recv seen.recv written.recv _ checked.new_disks.recv done.new_disks.recv;
+      };
       unwritten = λ told e refused. absurd (never told e refused);
-      full = λ told not_empty. absurd (not_empty (was_empty m new seen told checked.new_low.moves checked.new_high.moves checked.new_recv.moves (checked.empty told)));
-      turn = λ E B live received stand.
+      full = λ told not_empty. absurd (not_empty (was_empty m new seen told checked.new_disks.low.moves checked.new_disks.high.moves checked.new_disks.recv.moves (checked.empty told)));
+      made = λ E B live received stand.
           let one = j E B live received stand in
-          turned_after m _ _ _ _ new seen written (Err c.in-Err-write_all.fault) (Err c.in-Err-write_all.fault) (λ P p. p)
-          (λ told. λ i. low_bytes to (sym (one told).accepted i) (sym (one told).removed i) live) (λ told. λ i. high_bytes to (sym (one told).removed i)) checked.new_high.moves checked.new_recv.moves
-          (done.turn live (λ told. subst (λ (z : List ℕ). LowStands from k.accepted k.removed live z) (sym (low_same told)) (one told).found.stand.low_stands)
-          (λ told. (fits live received (one told).count (one told).end (one told).found told).live_fits));
-      made_low = λ E B live received stand.
-          let one = j E B live received stand in
-          made_weaker m (LowStands to k.accepted k.removed live) (LowStands to E B live) new.low written.low
-          (λ told x h. subst (λ n. LowStands to n B live x) (sym (one told).accepted) (subst (λ n. LowStands to k.accepted n live x) (sym (one told).removed) h))
-          (made_after m (LowStands to k.accepted k.removed live) new.low seen.low written.low checked.new_low.moves
-          (done.made_low live (λ told. subst (λ (z : List ℕ). LowStands from k.accepted k.removed live z) (sym (low_same told)) (one told).found.stand.low_stands)
-          (λ told. (fits live received (one told).count (one told).end (one told).found told).live_fits)));
-      made_high = λ E B live received stand.
-          let one = j E B live received stand in
-          made_weaker m (HighStands to k.removed) (HighStands to B) new.high written.high (λ told x h. subst (λ n. HighStands to n x) (sym (one told).removed) h)
-          (made_after m (HighStands to k.removed) new.high seen.high written.high checked.new_high.moves done.made_high);
-      made_recv = λ E B live received stand.
-          let one = j E B live received stand in
-          made_after m (RecvStands to received) new.recv seen.recv written.recv checked.new_recv.moves
-          (done.made_recv received (λ told. subst (λ (z : List ℕ). RecvStands from received z) (sym (recv_same told)) (one told).found.stand.recv_stands)
-          (λ told. subst (λ (z : List ℕ). value_of z ≡ (k.received, k.end)) (sym (recv_same told))
-          (value_is (m.reading old.recv) k.received k.end (ap (λ (v : ℕ × ℕ). v.0) (one told).found.stand.recv_stands.value ∙ (one told).count) (one told).end))
-          (λ told. (fits live received (one told).count (one told).end (one told).found told).received_fits));
+          record {
+            turn =
+                turned_after m _ _ _ _ new seen written (Err c.in-Err-write_all.fault) (Err c.in-Err-write_all.fault) (λ P p. p)
+                (λ told. λ i. low_bytes to (sym (one told).accepted i) (sym (one told).removed i) live) (λ told. λ i. high_bytes to (sym (one told).removed i)) checked.new_disks.high.moves checked.new_disks.recv.moves
+                (done.made.turn live (λ told. subst (λ (z : List ℕ). LowStands from k.accepted k.removed live z) (sym (low_same told)) (one told).found.stand.low_stands)
+                (λ told. (fits live received (one told).count (one told).end (one told).found told).live_fits));
+            low =
+                made_weaker m (LowStands to k.accepted k.removed live) (LowStands to E B live) new.low written.low
+                (λ told x h. subst (λ n. LowStands to n B live x) (sym (one told).accepted) (subst (λ n. LowStands to k.accepted n live x) (sym (one told).removed) h))
+                (made_after m (LowStands to k.accepted k.removed live) new.low seen.low written.low checked.new_disks.low.moves
+                (done.made.low live (λ told. subst (λ (z : List ℕ). LowStands from k.accepted k.removed live z) (sym (low_same told)) (one told).found.stand.low_stands)
+                (λ told. (fits live received (one told).count (one told).end (one told).found told).live_fits)));
+            high =
+                made_weaker m (HighStands to k.removed) (HighStands to B) new.high written.high (λ told x h. subst (λ n. HighStands to n x) (sym (one told).removed) h)
+                (made_after m (HighStands to k.removed) new.high seen.high written.high checked.new_disks.high.moves done.made.high);
+            recv =
+                made_after m (RecvStands to received) new.recv seen.recv written.recv checked.new_disks.recv.moves
+                (done.made.recv received (λ told. subst (λ (z : List ℕ). RecvStands from received z) (sym (recv_same told)) (one told).found.stand.recv_stands)
+                (λ told. subst (λ (z : List ℕ). value_of z ≡ (k.received, k.end)) (sym (recv_same told))
+                (value_is (m.reading old.recv) k.received k.end (ap (λ (v : ℕ × ℕ). v.0) (one told).found.stand.recv_stands.value ∙ (one told).count) (one told).end))
+                (λ told. (fits live received (one told).count (one told).end (one told).found told).received_fits));
+          };
     }
 
 pub returns : goal.returns
@@ -198,8 +214,8 @@ returns g c =
     let checked = c.in_default.ensures in
     let done = c.in_default-write_all.ensures in
     let s : IsSurveyed m from size k old = IfOk-at_ok (λ n. IsSurveyed m from size n old) c.in-Ok.is said.found in
-    let low_same : m.tells → m.reading read.low ≡ m.reading old.low = λ told. checked.old_low.moves.reads told ∙ said.low.moves.reads told in
-    let recv_same : m.tells → m.reading read.recv ≡ m.reading old.recv = λ told. checked.old_recv.moves.reads told ∙ said.recv.moves.reads told in
+    let low_same : m.tells → m.reading read.low ≡ m.reading old.low = λ told. checked.old_disks.low.moves.reads told ∙ said.low.moves.reads told in
+    let recv_same : m.tells → m.reading read.recv ≡ m.reading old.recv = λ told. checked.old_disks.recv.moves.reads told ∙ said.recv.moves.reads told in
     let j : (E B : ℕ) (live received : List (List ℕ)) → StandFor from E B live received (m.reading old.low) (m.reading old.high) (m.reading old.recv) → m.tells → IsJust m from size k old E B live received = λ E B live received stand told.
     just m from size k old c.requires.from s told E B live received stand in
     let fits : (live received : List (List ℕ)) → length received ≡ k.received → (value_of (m.reading old.recv)).1 ≡ k.end
@@ -219,53 +235,57 @@ returns g c =
             received,
             found,
             count,
-            was_empty m new seen told checked.new_low.moves checked.new_high.moves checked.new_recv.moves (checked.empty told),
+            was_empty m new seen told checked.new_disks.low.moves checked.new_disks.high.moves checked.new_disks.recv.moves (checked.empty told),
             record {
-              low_stands = done.low told live (subst (λ (z : List ℕ). LowStands from k.accepted k.removed live z) (sym (low_same told)) found.stand.low_stands) fit.live_fits;
-              high_stands = done.high told;
-              recv_stands = done.recv told received (subst (λ (z : List ℕ). RecvStands from received z) (sym (recv_same told)) found.stand.recv_stands)
+              low_stands = done.moved.low told live (subst (λ (z : List ℕ). LowStands from k.accepted k.removed live z) (sym (low_same told)) found.stand.low_stands) fit.live_fits;
+              high_stands = done.moved.high told;
+              recv_stands = done.moved.recv told received (subst (λ (z : List ℕ). RecvStands from received z) (sym (recv_same told)) found.stand.recv_stands)
                   (subst (λ (z : List ℕ). value_of z ≡ (k.received, k.end)) (sym (recv_same told))
                   (value_is (m.reading old.recv) k.received k.end (ap (λ (v : ℕ × ℕ). v.0) found.stand.recv_stands.value ∙ count) end)) fit.received_fits;
             },
             subst (λ (z : List ℕ). AreWritten to k.accepted k.removed k.received live z (m.reading written.low) (m.reading written.high) (m.reading written.recv)) (recv_same told)
-                (done.bytes told live (subst (λ (z : List ℕ). LowStands from k.accepted k.removed live z) (sym (low_same told)) found.stand.low_stands) fit.live_fits
+                (done.moved.bytes told live (subst (λ (z : List ℕ). LowStands from k.accepted k.removed live z) (sym (low_same told)) found.stand.low_stands) fit.live_fits
                 (subst (λ (z : List ℕ). value_of z ≡ (k.received, k.end)) (sym (recv_same told))
                 (value_is (m.reading old.recv) k.received k.end (ap (λ (v : ℕ × ℕ). v.0) found.stand.recv_stands.value ∙ count) end))),
           );
-      settled = done.settled;
+      settled = done.moved.settled;
       fine = never;
       exact = tt;
       device = tt;
-      old_low = kept_after m old.low read.low c.write_all.new.old.low _ (kept_on m Low end k old.low mid.low read.low false c.in-Ok.is said.low checked.old_low) done.old_low;
-      old_high = kept_after m old.high read.high c.write_all.new.old.high _ (kept_on m High end k old.high mid.high read.high false c.in-Ok.is said.high checked.old_high) done.old_high;
-      old_recv = kept_after m old.recv read.recv c.write_all.new.old.recv _ (kept_on m Recv end k old.recv mid.recv read.recv false c.in-Ok.is said.recv checked.old_recv) done.old_recv;
-      new_low = counted_after m new.low seen.low written.low _ checked.new_low done.new_low;
-      new_high = counted_after m new.high seen.high written.high _ checked.new_high done.new_high;
-      new_recv = counted_after m new.recv seen.recv written.recv _ checked.new_recv done.new_recv;
+      old_disks = record {
+        low = kept_after m old.low read.low c.write_all.new.old.low _ (kept_on m Low end k old.low mid.low read.low false c.in-Ok.is said.low checked.old_disks.low) done.old_disks.low;
+        high = kept_after m old.high read.high c.write_all.new.old.high _ (kept_on m High end k old.high mid.high read.high false c.in-Ok.is said.high checked.old_disks.high) done.old_disks.high;
+        recv = kept_after m old.recv read.recv c.write_all.new.old.recv _ (kept_on m Recv end k old.recv mid.recv read.recv false c.in-Ok.is said.recv checked.old_disks.recv) done.old_disks.recv;
+      };
+      new_disks = record {
+        low = counted_after m new.low seen.low written.low _ checked.new_disks.low done.new_disks.low;
+        high = counted_after m new.high seen.high written.high _ checked.new_disks.high done.new_disks.high;
+        recv = counted_after m new.recv seen.recv written.recv _ checked.new_disks.recv done.new_disks.recv;
+      };
       unwritten = λ told e refused. absurd (never told e refused);
-      full = λ told not_empty. absurd (not_empty (was_empty m new seen told checked.new_low.moves checked.new_high.moves checked.new_recv.moves (checked.empty told)));
-      turn = λ E B live received stand.
+      full = λ told not_empty. absurd (not_empty (was_empty m new seen told checked.new_disks.low.moves checked.new_disks.high.moves checked.new_disks.recv.moves (checked.empty told)));
+      made = λ E B live received stand.
           let one = j E B live received stand in
-          turned_after m _ _ _ _ new seen written _ (Ok (k.accepted, k.removed, k.received)) (λ P p. tt)
-          (λ told. λ i. low_bytes to (sym (one told).accepted i) (sym (one told).removed i) live) (λ told. λ i. high_bytes to (sym (one told).removed i)) checked.new_high.moves checked.new_recv.moves
-          (done.turn live (λ told. subst (λ (z : List ℕ). LowStands from k.accepted k.removed live z) (sym (low_same told)) (one told).found.stand.low_stands)
-          (λ told. (fits live received (one told).count (one told).end (one told).found told).live_fits));
-      made_low = λ E B live received stand.
-          let one = j E B live received stand in
-          made_weaker m (LowStands to k.accepted k.removed live) (LowStands to E B live) new.low written.low
-          (λ told x h. subst (λ n. LowStands to n B live x) (sym (one told).accepted) (subst (λ n. LowStands to k.accepted n live x) (sym (one told).removed) h))
-          (made_after m (LowStands to k.accepted k.removed live) new.low seen.low written.low checked.new_low.moves
-          (done.made_low live (λ told. subst (λ (z : List ℕ). LowStands from k.accepted k.removed live z) (sym (low_same told)) (one told).found.stand.low_stands)
-          (λ told. (fits live received (one told).count (one told).end (one told).found told).live_fits)));
-      made_high = λ E B live received stand.
-          let one = j E B live received stand in
-          made_weaker m (HighStands to k.removed) (HighStands to B) new.high written.high (λ told x h. subst (λ n. HighStands to n x) (sym (one told).removed) h)
-          (made_after m (HighStands to k.removed) new.high seen.high written.high checked.new_high.moves done.made_high);
-      made_recv = λ E B live received stand.
-          let one = j E B live received stand in
-          made_after m (RecvStands to received) new.recv seen.recv written.recv checked.new_recv.moves
-          (done.made_recv received (λ told. subst (λ (z : List ℕ). RecvStands from received z) (sym (recv_same told)) (one told).found.stand.recv_stands)
-          (λ told. subst (λ (z : List ℕ). value_of z ≡ (k.received, k.end)) (sym (recv_same told))
-          (value_is (m.reading old.recv) k.received k.end (ap (λ (v : ℕ × ℕ). v.0) (one told).found.stand.recv_stands.value ∙ (one told).count) (one told).end))
-          (λ told. (fits live received (one told).count (one told).end (one told).found told).received_fits));
+          record {
+            turn =
+                turned_after m _ _ _ _ new seen written _ (Ok (k.accepted, k.removed, k.received)) (λ P p. tt)
+                (λ told. λ i. low_bytes to (sym (one told).accepted i) (sym (one told).removed i) live) (λ told. λ i. high_bytes to (sym (one told).removed i)) checked.new_disks.high.moves checked.new_disks.recv.moves
+                (done.made.turn live (λ told. subst (λ (z : List ℕ). LowStands from k.accepted k.removed live z) (sym (low_same told)) (one told).found.stand.low_stands)
+                (λ told. (fits live received (one told).count (one told).end (one told).found told).live_fits));
+            low =
+                made_weaker m (LowStands to k.accepted k.removed live) (LowStands to E B live) new.low written.low
+                (λ told x h. subst (λ n. LowStands to n B live x) (sym (one told).accepted) (subst (λ n. LowStands to k.accepted n live x) (sym (one told).removed) h))
+                (made_after m (LowStands to k.accepted k.removed live) new.low seen.low written.low checked.new_disks.low.moves
+                (done.made.low live (λ told. subst (λ (z : List ℕ). LowStands from k.accepted k.removed live z) (sym (low_same told)) (one told).found.stand.low_stands)
+                (λ told. (fits live received (one told).count (one told).end (one told).found told).live_fits)));
+            high =
+                made_weaker m (HighStands to k.removed) (HighStands to B) new.high written.high (λ told x h. subst (λ n. HighStands to n x) (sym (one told).removed) h)
+                (made_after m (HighStands to k.removed) new.high seen.high written.high checked.new_disks.high.moves done.made.high);
+            recv =
+                made_after m (RecvStands to received) new.recv seen.recv written.recv checked.new_disks.recv.moves
+                (done.made.recv received (λ told. subst (λ (z : List ℕ). RecvStands from received z) (sym (recv_same told)) (one told).found.stand.recv_stands)
+                (λ told. subst (λ (z : List ℕ). value_of z ≡ (k.received, k.end)) (sym (recv_same told))
+                (value_is (m.reading old.recv) k.received k.end (ap (λ (v : ℕ × ℕ). v.0) (one told).found.stand.recv_stands.value ∙ (one told).count) (one told).end))
+                (λ told. (fits live received (one told).count (one told).end (one told).found told).received_fits));
+          };
     }

@@ -44,27 +44,29 @@ returns-in_err-write_low g c =
     let (fault, was, same) = err_from_is_err_and c.from_residual.result c.from_residual.ensures.1 in
     let is = was ∙ ap (λ d. Err d) same in
     record {
-      low = rw (is) tt;
-      high = rw (is) tt;
-      recv = rw (is) tt;
-      bytes = rw (is) tt;
-      turn = rw (is) (λ live stands fits. record {
-        at_low = λ low. (still m new.high, still m new.recv);
-        at_high = λ high. still m new.recv;
-        high = λ told. inl (still m new.high);
-        recv = λ told. inl (still m new.recv);
-      });
-      settled = rw (is) tt;
-      made_low = e.made;
-      made_high = made_still m _ new.high;
-      made_recv = λ received stands value fits. made_still m _ new.recv;
+      moved = rw (is) tt;
+      made = record {
+        turn = rw (is) (λ live stands fits. record {
+          at_low = λ low. (still m new.high, still m new.recv);
+          at_high = λ high. still m new.recv;
+          high = λ told. inl (still m new.high);
+          recv = λ told. inl (still m new.recv);
+        });
+        low = e.made;
+        high = made_still m _ new.high;
+        recv = λ received stands value fits. made_still m _ new.recv;
+      };
       device = rw (is) device;
-      old_low = rw (is) e.kept;
-      old_high = rw (is) (apart_kept m High f old.high old.high Low own refl false (kept_still m old.high));
-      old_recv = rw (is) (apart_kept m Recv f old.recv old.recv Low own refl false (kept_still m old.recv));
-      new_low = rw (is) e.counted;
-      new_high = rw (is) (apart_counted m High f new.high new.high Low own refl (counted_still m new.high));
-      new_recv = rw (is) (apart_counted m Recv f new.recv new.recv Low own refl (counted_still m new.recv));
+      old_disks = record {
+        low = rw (is) e.kept;
+        high = rw (is) (apart_kept m High f old.high old.high Low own refl false (kept_still m old.high));
+        recv = rw (is) (apart_kept m Recv f old.recv old.recv Low own refl false (kept_still m old.recv));
+      };
+      new_disks = record {
+        low = rw (is) e.counted;
+        high = rw (is) (apart_counted m High f new.high new.high Low own refl (counted_still m new.high));
+        recv = rw (is) (apart_counted m Recv f new.recv new.recv Low own refl (counted_still m new.recv));
+      };
     }
 
 pub returns-in_err-write_high : goal.returns-in_err-write_high
@@ -83,27 +85,29 @@ returns-in_err-write_high g c =
     let (fault, was, same) = err_from_is_err_and c.from_residual-in_err-write_high.result c.from_residual-in_err-write_high.ensures.1 in
     let is = was ∙ ap (λ d. Err d) same in
     record {
-      low = rw (is) tt;
-      high = rw (is) tt;
-      recv = rw (is) tt;
-      bytes = rw (is) tt;
-      turn = rw (is) (λ live stands fits. record {
-        at_low = λ low. absurd (let other : High ≡ Low = sym (ap (λ (x : MoveFault). x.role) e.device) ∙ low in cc);
-        at_high = λ high. still m new.recv;
-        high = λ told. inr (one.bytes told live (stands told) (fits told));
-        recv = λ told. inl (still m new.recv);
-      });
-      settled = rw (is) tt;
-      made_low = one.made;
-      made_high = e.made;
-      made_recv = λ received stands value fits. made_still m _ new.recv;
+      moved = rw (is) tt;
+      made = record {
+        turn = rw (is) (λ live stands fits. record {
+          at_low = λ low. absurd (let other : High ≡ Low = sym (ap (λ (x : MoveFault). x.role) e.device) ∙ low in cc);
+          at_high = λ high. still m new.recv;
+          high = λ told. inr (one.bytes told live (stands told) (fits told));
+          recv = λ told. inl (still m new.recv);
+        });
+        low = one.made;
+        high = e.made;
+        recv = λ received stands value fits. made_still m _ new.recv;
+      };
       device = rw (is) device;
-      old_low = rw (is) (apart_kept m Low f old.low left.low High own refl false one.kept);
-      old_high = rw (is) (old_kept m High f old.high old.high (λ _. ap (λ (x : MoveFault). x.new) e.device) (kept_still m old.high));
-      old_recv = rw (is) (apart_kept m Recv f old.recv old.recv High own refl false (kept_still m old.recv));
-      new_low = rw (is) (apart_counted m Low f new.low made.low High own refl one.counted);
-      new_high = rw (is) e.counted;
-      new_recv = rw (is) (apart_counted m Recv f new.recv new.recv High own refl (counted_still m new.recv));
+      old_disks = record {
+        low = rw (is) (apart_kept m Low f old.low left.low High own refl false one.kept);
+        high = rw (is) (old_kept m High f old.high old.high (λ _. ap (λ (x : MoveFault). x.new) e.device) (kept_still m old.high));
+        recv = rw (is) (apart_kept m Recv f old.recv old.recv High own refl false (kept_still m old.recv));
+      };
+      new_disks = record {
+        low = rw (is) (apart_counted m Low f new.low made.low High own refl one.counted);
+        high = rw (is) e.counted;
+        recv = rw (is) (apart_counted m Recv f new.recv new.recv High own refl (counted_still m new.recv));
+      };
     }
 
 pub returns-in_err-write_recv : goal.returns-in_err-write_recv
@@ -129,27 +133,29 @@ returns-in_err-write_recv g c =
     let (fault, was, same) = err_from_is_err_and c.from_residual-in_err-write_recv.result c.from_residual-in_err-write_recv.ensures.1 in
     let is = was ∙ ap (λ d. Err d) same in
     record {
-      low = rw (is) tt;
-      high = rw (is) tt;
-      recv = rw (is) tt;
-      bytes = rw (is) tt;
-      turn = rw (is) (λ live stands fits. record {
-        at_low = λ low. absurd (let other : Recv ≡ Low = sym at_recv ∙ low in cc);
-        at_high = λ high. absurd (let other : Recv ≡ High = sym at_recv ∙ high in cc);
-        high = λ told. inr (one.bytes told live (stands told) (fits told));
-        recv = λ told. inr (one.bytes told live (stands told) (fits told), two.bytes told);
-      });
-      settled = rw (is) tt;
-      made_low = one.made;
-      made_high = two.made;
-      made_recv = λ received stands value fits. e.made c.args.from.now received stands value fits;
+      moved = rw (is) tt;
+      made = record {
+        turn = rw (is) (λ live stands fits. record {
+          at_low = λ low. absurd (let other : Recv ≡ Low = sym at_recv ∙ low in cc);
+          at_high = λ high. absurd (let other : Recv ≡ High = sym at_recv ∙ high in cc);
+          high = λ told. inr (one.bytes told live (stands told) (fits told));
+          recv = λ told. inr (one.bytes told live (stands told) (fits told), two.bytes told);
+        });
+        low = one.made;
+        high = two.made;
+        recv = λ received stands value fits. e.made c.args.from.now received stands value fits;
+      };
       device = rw (is) device;
-      old_low = rw (is) (apart_kept m Low f old.low left.low Recv own refl false one.kept);
-      old_high = rw (is) (apart_kept m High f old.high old.high Recv own refl false (kept_still m old.high));
-      old_recv = rw (is) e.kept;
-      new_low = rw (is) (apart_counted m Low f new.low made.low Recv own refl one.counted);
-      new_high = rw (is) (apart_counted m High f new.high made.high Recv own refl two.counted);
-      new_recv = rw (is) e.counted;
+      old_disks = record {
+        low = rw (is) (apart_kept m Low f old.low left.low Recv own refl false one.kept);
+        high = rw (is) (apart_kept m High f old.high old.high Recv own refl false (kept_still m old.high));
+        recv = rw (is) e.kept;
+      };
+      new_disks = record {
+        low = rw (is) (apart_counted m Low f new.low made.low Recv own refl one.counted);
+        high = rw (is) (apart_counted m High f new.high made.high Recv own refl two.counted);
+        recv = rw (is) e.counted;
+      };
     }
 
 pub returns : goal.returns
@@ -161,25 +167,33 @@ returns g c =
     let two = c.in_ok-write_high.ensures in
     let three = c.in_ok-write_recv.ensures in
     record {
-      low = one.stands;
-      high = two.stands;
-      recv = λ told received stands value fits. three.stands told c.args.from.now received stands value fits;
-      bytes = λ told live stands fits value. record { low_is = one.bytes told live stands fits; high_is = two.bytes told; recv_is = three.bytes told value };
-      turn = λ live stands fits. record {
-        at_low = tt;
-        at_high = tt;
-        high = λ told. inr (one.bytes told live (stands told) (fits told));
-        recv = λ told. inr (one.bytes told live (stands told) (fits told), two.bytes told);
+      moved = record {
+        low = one.stands;
+        high = two.stands;
+        recv = λ told received stands value fits. three.stands told c.args.from.now received stands value fits;
+        bytes = λ told live stands fits value. record { low_is = one.bytes told live stands fits; high_is = two.bytes told; recv_is = three.bytes told value };
+        settled = (one.settled, two.settled, three.settled);
       };
-      settled = (one.settled, two.settled, three.settled);
-      made_low = one.made;
-      made_high = two.made;
-      made_recv = λ received stands value fits. three.made c.args.from.now received stands value fits;
+      made = record {
+        turn = λ live stands fits. record {
+          at_low = tt;
+          at_high = tt;
+          high = λ told. inr (one.bytes told live (stands told) (fits told));
+          recv = λ told. inr (one.bytes told live (stands told) (fits told), two.bytes told);
+        };
+        low = one.made;
+        high = two.made;
+        recv = λ received stands value fits. three.made c.args.from.now received stands value fits;
+      };
       device = tt;
-      old_low = one.kept;
-      old_high = kept_still m old.high;
-      old_recv = three.kept;
-      new_low = one.counted;
-      new_high = two.counted;
-      new_recv = three.counted;
+      old_disks = record {
+        low = one.kept;
+        high = kept_still m old.high;
+        recv = three.kept;
+      };
+      new_disks = record {
+        low = one.counted;
+        high = two.counted;
+        recv = three.counted;
+      };
     }

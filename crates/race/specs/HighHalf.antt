@@ -2,6 +2,7 @@
 use Rattle.std.specs.Prelude.{◌≡◌, ℕ, ◌+◌, ◌*◌, ◌^◌, ◌<◌, ◌≤◌, Bool, true, false, nat_le, if◌then◌else◌, List, [], ◌∷◌}
 use Rattle.std.specs.Prelude.{◌++◌, length, map, Option, Some, None}
 use Rattle.std.specs.List.{All}
+use Rattle.atomic_table.specs.Seated.{TableId}
 use Rattle.pump_frame.specs.declared.frame.Frame.{Frame}
 use Rattle.pump_frame.specs.declared.frame.Item.{Item}
 use Rattle.pump_frame.specs.declared.frame.Kind.TheVariants.{Taken}
@@ -9,10 +10,10 @@ use Rattle.disk_model.specs.Plain.{Plain, plain_meaning}
 use Rattle.stable_buffer.specs.Stands.{HighStands}
 use Rattle.stable_buffer.specs.Log.{RecvStands}
 use Rattle.stable_buffer.specs.High.{IsHighReady, high_disk, high_count}
-use Rattle.pump_core.specs.Passage.{Low, High, new_low}
+use Rattle.pump_core.specs.Passage.{Low, High, Shape, new_low}
 use Rattle.pump_core.specs.Sendings.{Sending}
 use Rattle.high_process.specs.Past.{ProcessPast}
-use Rattle.high_process.specs.States.{row_of, is_down}
+use Rattle.high_process.specs.States.{row_of, is_down, removed_of}
 use Rattle.high_process.specs.Ends.{StandsFitting}
 use Rattle.high_process.specs.Looks.{StandsFor}
 use Rattle.high_receiver.specs.Receiving.{IsRecvReady, recv_disk, recv_count, recv_end, recv_row, recv_size}
@@ -100,3 +101,16 @@ pub record HighAt {H : Type 0} (stands : H → Low → High → Type 0) (has_tak
   pub recv : HasReceived w.receiver w.count received
   pub received_are : received ≡ map payload_in (if has_taken then high.taken else before)
   pub hand_taken : has_taken ≡ true → (past.removed < w.count) × ((x : Item) × (past.hand ≡ Some x))
+
+-- before its first look: no message is removed
+pub record HighBegins {H : Type 0} (stands : H → Low → High → Type 0) (w : HighHalf H) : Type 0 where
+  pub at : HighAt stands false w
+  pub none_removed : removed_of w.process ≡ 0
+
+-- what looks leave as it is: whose end it has, how many messages there are, and the times that they need
+pub record HighStays {H : Type 0} (place : H → List TableId) (shape : H → Shape) (before after : HighHalf H) : Type 0
+  where
+    pub place_is : place after.ends ≡ place before.ends
+    pub shape_is : shape after.ends ≡ shape before.ends
+    pub count : after.count ≡ before.count
+    pub times : after.times ≡ before.times

@@ -3,6 +3,7 @@
 use Rattle.std.specs.Prelude.{◌≡◌, ◌⊎◌, ℕ, ◌+◌, ◌≤◌, Bool, true, false, if◌then◌else◌, List, [], ◌∷◌, ◌++◌, length, map}
 use Rattle.std.specs.Prelude.{Option, Some, None}
 use Rattle.std.specs.List.{AllByRecursion}
+use Rattle.atomic_table.specs.Seated.{TableId}
 use Rattle.pump_frame.specs.declared.frame.Frame.{Frame}
 use Rattle.pump_frame.specs.declared.frame.Item.{Item}
 use Rattle.disk_model.specs.Plain.{plain_meaning}
@@ -16,7 +17,7 @@ use Rattle.pump_core.specs.Exchanges.{Part, IsCut, greeted_after}
 use Rattle.pump_core.specs.Replies.{LowReplies}
 use Rattle.pump_core.specs.Standing.{phase_after}
 use Rattle.pump_core.specs.Passage.{Low, High, new_high, Shape, shape_of_row}
-use Rattle.low_process.specs.Looks.{StandsFor, row_of, next_of, is_down, is_idle, hand_of}
+use Rattle.low_process.specs.Looks.{StandsFor, row_of, next_of, last_of, is_down, is_idle, hand_of}
 use Rattle.low_process.specs.Ends.{StandsFitting}
 use Rattle.low_process.specs.Whole.{HasStore}
 use Rattle.relay_threads.specs.PairsRead.{pairs_of}
@@ -88,6 +89,18 @@ pub record LowAt {L : Type 0} (stands : L → Low → High → Type 0) (shape : 
 -- with all messages still to come that the script has left
 abbrev pub LowRests : {L : Type 0} → (L → Low → High → Type 0) → (L → Shape) → LowHalf L → List Made → Type 0
 LowRests stands shape w made = LowAt stands shape w (messages_in w.script) made
+
+-- before its first look, at moment 0
+pub record LowBegins {L : Type 0} (stands : L → Low → High → Type 0) (shape : L → Shape) (w : LowHalf L) : Type 0 where
+  pub at : LowRests stands shape w []
+  pub last : last_of w.process ≡ 0
+
+-- what looks leave as it is: whose end it has, and which messages it is to send
+pub record LowStays {L : Type 0} (place : L → List TableId) (shape : L → Shape) (before after : LowHalf L) : Type 0 where
+  pub place_is : place after.ends ≡ place before.ends
+  pub shape_is : shape after.ends ≡ shape before.ends
+  pub seed : after.seed ≡ before.seed
+  pub count : after.count ≡ before.count
 
 -- A frame that comes is the HELLO, or the DATA of the first message still to come, and comes only
 -- where it is taken.

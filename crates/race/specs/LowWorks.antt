@@ -1,5 +1,5 @@
 -- What the low worker of a race does.
-use Rattle.std.specs.Prelude.{◌≡◌, ℕ, ◌≤◌, true, false, List, [], Option}
+use Rattle.std.specs.Prelude.{◌≡◌, ℕ, ◌≤◌, Bool, true, false, List, [], Option}
 use Rattle.std.specs.List.{AllByRecursion}
 use Rattle.atomic_table.specs.Seated.{TableId}
 use Rattle.pump_link.specs.Tells.{Draws, Grows}
@@ -9,7 +9,7 @@ use Rattle.relay_threads.specs.Records.{Made, record_of}
 use Rattle.relay_threads.specs.RecordLines.{looks_text}
 use Rattle.relay_threads.specs.Replays.{IsReadable}
 use Rattle.script_reader.specs.Generated.{generated_row}
-use Rattle.race.specs.LowHalf.{LowRests}
+use Rattle.race.specs.LowHalf.{LowRests, LowStays}
 use Rattle.race.specs.MadeLooks.{moments_of, acks_of}
 use Rattle.race.specs.Tape.{row_in, Prints}
 use Rattle.race.specs.Turns.{asks_in_run, CountsStop}
@@ -19,6 +19,11 @@ use Rattle.race.specs.declared.low_work.LowWork.{LowWork}
 -- all messages are stored, passed on and acknowledged
 abbrev pub IsLowDone : {L : Type 0} → LowHalf L → Type 0
 IsLowDone w = (is_idle w.process ≡ true) × (w.count ≤ next_of w.process)
+
+-- how the work of the half ended: all of it was done, or its gate stopped it and counted that
+pub record LowEnds {L : Type 0} (w : LowHalf L) (is_stopped : Bool) (stops_before stops_now : ℕ) : Type 0 where
+  pub done : is_stopped ≡ false → IsLowDone w
+  pub stops : CountsStop is_stopped stops_before stops_now
 
 module _ {K O L G : Type 0} (reads : K → List ℕ → Type 0) (floor : K → ℕ) (written : O → Option (List ℕ)) (faults : O
     → ℕ)
@@ -37,9 +42,7 @@ module _ {K O L G : Type 0} (reads : K → List ℕ → Type 0) (floor : K → �
     pub out : w.out.ghost_name ≡ v.out.ghost_name
     pub tape : w.tape.ghost_name ≡ v.tape.ghost_name
     pub gate : w.gate.ghost_name ≡ v.gate.ghost_name
-    pub place_stays : place w.half.now.ends ≡ place v.half.now.ends
-    pub seed : w.half.now.seed ≡ v.half.now.seed
-    pub count : w.half.now.count ≡ v.half.now.count
+    pub stays : LowStays place shape v.half.now w.half.now
 
   -- after these looks, which drew the clock's readings, and whose record was printed, while the gate was
   -- asked this, and counted a stop where it stopped the worker

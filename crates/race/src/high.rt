@@ -1,14 +1,13 @@
 // The high half of a race: the high process, and the receiver.
 ghost use Rattle.std.specs.Prelude.{◌≡◌, ◌+◌, ◌<◌, ◌≤◌, [], true, false};
-ghost use Rattle.disk_model.specs.Plain.{plain_meaning};
-ghost use Rattle.stable_buffer.specs.Stands.{HighStands};
-ghost use Rattle.stable_buffer.specs.High.{IsHighReady, high_count, high_disk};
+ghost use Rattle.stable_buffer.specs.High.{high_disk};
 ghost use Rattle.pump_core.specs.Passage.{new_low, new_high};
 ghost use Rattle.high_process.specs.States.{removed_of, hand_of};
 ghost use Rattle.high_receiver.specs.Receiving.{recv_count, recv_disk};
 ghost use Rattle.script_reader.specs.Generated.{generated_row};
 ghost use Rattle.race.specs.Turns.{turn, CanTurn};
-ghost use Rattle.race.specs.HighHalf.{HighAt, HasReceived, IsAnswer, comes_to_receiver};
+ghost use Rattle.race.specs.HighHalf.{HighAt, HighBegins, HighStays, HasReceived, IsAnswer, comes_to_receiver};
+ghost use Rattle.race.specs.NewDisks.{IsNewHigh};
 
 use arrayvec::ArrayVec;
 use disk_model::PlainDisk;
@@ -63,15 +62,10 @@ impl<H: WaitHighEnd> HighHalf<H> {
     ) -> HighHalf<H>
         requires row { row.now ≡ generated_row }
         requires stands { H.stands ends new_low new_high }
-        requires ready { IsHighReady plain_meaning store }
-        requires zero { high_count store ≡ 0 }
-        requires disk { HighStands generated_row 0 (high_disk store).bytes }
-        requires calm { (high_disk store).armed ≡ false }
-        requires room { 80 ≤ (high_disk store).room }
+        requires store { IsNewHigh store }
         requires receiver { HasReceived receiver count [] }
         requires turn { CanTurn times.now count }
-        ensures at { HighAt H.stands false result }
-        ensures removed { removed_of result.process ≡ 0 }
+        ensures begins { HighBegins H.stands result }
         ensures ends { result.ends ≡ ends }
         ensures times { result.times.items ≡ times.now }
         ensures count { result.count ≡ count }
@@ -97,10 +91,7 @@ impl<H: WaitHighEnd> HighHalf<H> {
         ensures at { HighAt H.stands false self.new }
         ensures removed { removed_of self.new.process ≡ removed_of self.old.process }
         ensures moment { self.new.moment ≡ self.old.moment }
-        ensures times { self.new.times ≡ self.old.times }
-        ensures count { self.new.count ≡ self.old.count }
-        ensures place { H.place self.new.ends ≡ H.place self.old.ends }
-        ensures shape { H.shape self.new.ends ≡ H.shape self.old.ends }
+        ensures stays { HighStays H.place H.shape self.old self.new }
     {
         match self
             .process
@@ -143,10 +134,7 @@ impl<H: WaitHighEnd> HighHalf<H> {
         ensures removed { removed_of self.new.process ≡ removed_of self.old.process + 1 }
         ensures moment { self.new.moment ≡ self.old.moment
             + turn self.old.times.items (removed_of self.old.process) }
-        ensures times { self.new.times ≡ self.old.times }
-        ensures count { self.new.count ≡ self.old.count }
-        ensures place { H.place self.new.ends ≡ H.place self.old.ends }
-        ensures shape { H.shape self.new.ends ≡ H.shape self.old.ends }
+        ensures stays { HighStays H.place H.shape self.old self.new }
     {
         let number = self.process.removed();
         let turn = number % self.times.len() as u64;

@@ -1,9 +1,7 @@
 // The low half of a race: the low process, and the low party.
-ghost use Rattle.std.specs.Prelude.{◌≡◌, ◌≤◌, ◌-◌, ◌^◌, List, [], ◌∷◌, true, false, IfSome};
-ghost use Rattle.disk_model.specs.Plain.{plain_meaning};
+ghost use Rattle.std.specs.Prelude.{◌≡◌, ◌≤◌, ◌-◌, ◌^◌, List, ◌∷◌, true, false, IfSome};
 ghost use Rattle.pump_frame.specs.declared.frame.Item.{Item};
-ghost use Rattle.stable_buffer.specs.Stands.{low_size};
-ghost use Rattle.stable_buffer.specs.Low.{IsLowReady, low_count, low_row, low_disk};
+ghost use Rattle.stable_buffer.specs.Low.{low_disk};
 ghost use Rattle.pump_core.specs.Passage.{new_low, new_high, shape_of_row};
 ghost use Rattle.low_process.specs.Looks.{last_of, next_of, is_idle, arrival_of};
 ghost use Rattle.relay_threads.specs.Records.{Made};
@@ -11,8 +9,9 @@ ghost use Rattle.script_reader.specs.Generated.{generated_row};
 ghost use Rattle.pump_frame.specs.Frames.{IsLawful};
 ghost use Rattle.pump_core.specs.ReplyFrames.{IsLawfulReply};
 ghost use Rattle.relay_threads.specs.RecordLines.{made_by};
-ghost use Rattle.race.specs.LowHalf.{LowAt, LowRests, IsOffer, offered, arrival_in};
+ghost use Rattle.race.specs.LowHalf.{LowAt, LowRests, LowBegins, LowStays, IsOffer, offered, arrival_in};
 ghost use Rattle.race.specs.Messages.{messages_in, race_items};
+ghost use Rattle.race.specs.NewDisks.{IsNewLow};
 
 use crate::messages::{next_message, next_word, put_hello};
 use disk_model::PlainDisk;
@@ -68,16 +67,11 @@ impl<L: WaitLowEnd> LowHalf<L> {
         requires row { row.now ≡ generated_row }
         requires stands { L.stands ends new_low new_high }
         requires shape { L.shape ends ≡ shape_of_row generated_row }
-        requires ready { IsLowReady plain_meaning store }
-        requires zero { low_count store ≡ 0 }
-        requires of { low_row store ≡ generated_row }
-        requires calm { (low_disk store).armed ≡ false }
-        requires room { low_size generated_row ≤ (low_disk store).room }
+        requires store { IsNewLow store }
         requires script { messages_in script ≡ race_items seed count }
         requires some { 1 ≤ count }
         requires few { count ≤ 100000 }
-        ensures at { LowRests L.stands L.shape result [] }
-        ensures last { last_of result.process ≡ 0 }
+        ensures begins { LowBegins L.stands L.shape result }
         ensures ends { result.ends ≡ ends }
         ensures seed { result.seed ≡ seed }
         ensures count { result.count ≡ count }
@@ -139,10 +133,7 @@ impl<L: WaitLowEnd> LowHalf<L> {
         ensures arrival { arrival_of result.arrival ≡ arrival_in (offered comes frame.now) }
         ensures reply { IfSome result.look.reply IsLawfulReply }
         ensures last { last_of self.new.process ≡ moment }
-        ensures seed { self.new.seed ≡ self.old.seed }
-        ensures count { self.new.count ≡ self.old.count }
-        ensures place { L.place self.new.ends ≡ L.place self.old.ends }
-        ensures shape { L.shape self.new.ends ≡ L.shape self.old.ends }
+        ensures stays { LowStays L.place L.shape self.old self.new }
     {
         let word = next_word(self.word);
         self.word = word;

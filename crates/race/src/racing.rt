@@ -1,14 +1,12 @@
 // A race over disks in memory, which prints its record.
-ghost use Rattle.std.specs.Prelude.{◌≡◌, ◌≤◌, ◌⊎◌, ℕ, true, false, List, [], IfOk, OnErr};
+ghost use Rattle.std.specs.Prelude.{◌≡◌, ◌≤◌, ◌⊎◌, ℕ, true, false, List, IfOk, OnErr};
 ghost use Rattle.pump_frame.specs.Counts.{Rose};
 ghost use Rattle.pump_link.specs.Tells.{Draws, Grows};
 ghost use Rattle.pump_core.specs.Passage.{shape_of_row};
 ghost use Rattle.relay_ring.specs.RingEnds.{LowEndStands, HighEndStands, low_place, high_place, low_shape, high_shape};
-ghost use Rattle.low_process.specs.Looks.{last_of};
-ghost use Rattle.high_process.specs.States.{removed_of};
 ghost use Rattle.script_reader.specs.Generated.{generated_row};
-ghost use Rattle.race.specs.HighHalf.{HighAt};
-ghost use Rattle.race.specs.LowHalf.{LowRests};
+ghost use Rattle.race.specs.HighHalf.{HighBegins};
+ghost use Rattle.race.specs.LowHalf.{LowBegins};
 ghost use Rattle.race.specs.Race.{IsRaceRecord, IsStoppedRecord, AreRaceDisks};
 ghost use Rattle.race.specs.Tape.{Written};
 ghost use Rattle.race.specs.Turns.{CanTurn, AsksHigh, CountsStop};
@@ -60,10 +58,8 @@ fn race_halves<
     low_gate: &mut G,
     high_gate: &mut H,
 ) -> Result<RaceEnd, OutOfMemory>
-    requires low { LowRests (λ end. LowEndStands end.0) (λ end. low_shape end.0) low [] }
-    requires last { last_of low.process ≡ 0 }
-    requires high { HighAt (λ end. HighEndStands end.0) false high }
-    requires none_removed { removed_of high.process ≡ 0 }
+    requires low { LowBegins (λ end. LowEndStands end.0) (λ end. low_shape end.0) low }
+    requires high { HighBegins (λ end. HighEndStands end.0) high }
     requires place { low_place low.ends.0 ≡ high_place high.ends.0 }
     requires shape { high_shape high.ends.0 ≡ shape_of_row generated_row }
     requires count { low.count ≡ high.count }

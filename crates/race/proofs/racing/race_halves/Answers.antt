@@ -54,11 +54,11 @@ returns g c = record {
       let high = c.run_halves.new.high in
       let made = r.low.0 in
       let a = r.low.1 in
-      let done = r.low_ended low_on in
-      let (b, all) = r.high_ended high_on in
-      let same : low.count ≡ high.count = r.low_count ∙ c.requires.count ∙ sym r.high_count in
+      let done = r.low_ends.done low_on in
+      let (b, all) = r.high_ends.done high_on in
+      let same : low.count ≡ high.count = r.low_stays.count ∙ c.requires.count ∙ sym r.high_stays.count in
       let stands = b.fitting.0 in
-      let fits = fits_left low.ends c.into_end-low_end.result.0 high.ends c.into_end-high_end.result.0 c.into_end-low_end.ensures.end c.into_end-high_end.ensures.end (r.high_shape ∙ c.requires.shape) c.rejoin.ensures.lawful
+      let fits = fits_left low.ends c.into_end-low_end.result.0 high.ends c.into_end-high_end.result.0 c.into_end-low_end.ensures.end c.into_end-high_end.ensures.end (r.high_stays.shape_is ∙ c.requires.shape) c.rejoin.ensures.lawful
       a.low b.high a.fitting.0 (record { is = stands.is; taken = stands.taken; floor = stands.floor; times = stands.times; taken_before = stands.taken_before; tries = stands.tries }) in
       let times_are : c.as_slice.result.now ≡ high.times.items = c.as_slice.ensures.value in
       let none : c.in_ok-raced.raced.low_stopped || c.in_ok-raced.raced.high_stopped ≡ false = ap (λ (z : Bool × Bool). z.0 || z.1) (λ i. (low_on i, high_on i)) in
@@ -78,15 +78,15 @@ returns g c = record {
         subst (λ (stopped : Bool). Grows (g.G.Gate.asked c.args.low_gate.now) (g.G.Gate.asked c.run_halves.new.low_gate) (asks_in_run stopped (acks_of made))) low_on r.low.4,
         record {
           made = made;
-          looks = subst (λ (seed : ℕ). AreRaceLooks seed made) r.seed (looks_are LowEndStands low_shape low made a);
+          looks = subst (λ (seed : ℕ). AreRaceLooks seed made) r.low_stays.seed (looks_are LowEndStands low_shape low made a);
           readings_are = refl;
           asks_are = refl;
-          acked = all_acked LowEndStands low_shape low made a done ∙ same ∙ r.high_count;
+          acked = all_acked LowEndStands low_shape low made a done ∙ same ∙ r.high_stays.count;
           readable = record { opening = c.open.ensures.reads; coarse = λ e. absurd (true≢false (sym e)); looks = r.low.5 };
-          printed = subst (λ (z : ℕ × ℕ × List ℕ). ArePrinted z.0 z.1 z.2 (moments_of made) (recorded made)) (λ i. (r.seed i, r.high_count i, ap (λ t. t.items) r.times i))
+          printed = subst (λ (z : ℕ × ℕ × List ℕ). ArePrinted z.0 z.1 z.2 (moments_of made) (recorded made)) (λ i. (r.low_stays.seed i, r.high_stays.count i, ap (λ t. t.items) r.high_stays.times i))
               (printed_by_both LowEndStands low_shape low made a HighEndStands high b done all same fits.agrees);
           bytes_are = ap (λ (z : List ℕ × ℕ × ℕ × ℕ × ℕ). text ++ end_lines (turns z.0 z.1) z.2 z.3 z.4)
-              (λ i. ((times_are ∙ ap (λ t. t.items) r.times) i, r.high_count i, (took_is ∙ r.high_count) i, (next_is ∙ r.high_count) i, (gone_is ∙ r.high_count) i));
+              (λ i. ((times_are ∙ ap (λ t. t.items) r.high_stays.times) i, r.high_stays.count i, (took_is ∙ r.high_stays.count) i, (next_is ∙ r.high_stays.count) i, (gone_is ∙ r.high_stays.count) i));
         },
       );
   cut_short =
@@ -108,10 +108,10 @@ returns g c = record {
         r.low.4,
         record {
           made = made;
-          looks = subst (λ (seed : ℕ). AreRaceLooks seed made) r.seed (looks_are LowEndStands low_shape low made a);
+          looks = subst (λ (seed : ℕ). AreRaceLooks seed made) r.low_stays.seed (looks_are LowEndStands low_shape low made a);
           readings_are = refl;
           asks_are = refl;
-          acked = λ on. all_acked LowEndStands low_shape low made a (r.low_ended on) ∙ r.low_count;
+          acked = λ on. all_acked LowEndStands low_shape low made a (r.low_ends.done on) ∙ r.low_stays.count;
           readable = record { opening = c.open.ensures.reads; coarse = λ e. absurd (true≢false (sym e)); looks = r.low.5 };
           bytes_are = append-nil text;
         },
@@ -123,28 +123,28 @@ returns g c = record {
       let high = c.run_halves.new.high in
       let made = r.low.0 in
       let a = r.low.1 in
-      let done = r.low_ended low_on in
-      let (b, all) = r.high_ended high_on in
-      let same : low.count ≡ high.count = r.low_count ∙ c.requires.count ∙ sym r.high_count in
+      let done = r.low_ends.done low_on in
+      let (b, all) = r.high_ends.done high_on in
+      let same : low.count ≡ high.count = r.low_stays.count ∙ c.requires.count ∙ sym r.high_stays.count in
       let stands = b.fitting.0 in
-      let fits = fits_left low.ends c.into_end-low_end.result.0 high.ends c.into_end-high_end.result.0 c.into_end-low_end.ensures.end c.into_end-high_end.ensures.end (r.high_shape ∙ c.requires.shape) c.rejoin.ensures.lawful
+      let fits = fits_left low.ends c.into_end-low_end.result.0 high.ends c.into_end-high_end.result.0 c.into_end-low_end.ensures.end c.into_end-high_end.ensures.end (r.high_stays.shape_is ∙ c.requires.shape) c.rejoin.ensures.lawful
       a.low b.high a.fitting.0 (record { is = stands.is; taken = stands.taken; floor = stands.floor; times = stands.times; taken_before = stands.taken_before; tries = stands.tries }) in
-      let next_is = low_count_is LowEndStands low_shape low made a HighEndStands high b done all same fits.agrees ∙ r.high_count in
-      let removed_is = high_count_is LowEndStands low_shape low made a HighEndStands high b done all same fits.agrees ∙ r.high_count in
+      let next_is = low_count_is LowEndStands low_shape low made a HighEndStands high b done all same fits.agrees ∙ r.high_stays.count in
+      let removed_is = high_count_is LowEndStands low_shape low made a HighEndStands high b done all same fits.agrees ∙ r.high_stays.count in
       let messages : b.received ≡ payloads c.args.low.seed c.args.high.count =
-      received_by_both LowEndStands low_shape low made a HighEndStands high b done all same fits.agrees ∙ ap (λ (z : ℕ × ℕ). payloads z.0 z.1) (λ i. (r.seed i, r.high_count i)) in
+      received_by_both LowEndStands low_shape low made a HighEndStands high b done all same fits.agrees ∙ ap (λ (z : ℕ × ℕ). payloads z.0 z.1) (λ i. (r.low_stays.seed i, r.high_stays.count i)) in
       let store = a.store a.up in
       record {
         low_stands = subst (λ (z : SessionRow × ℕ × Plain). StandsForCount z.0 z.1 z.2.bytes) (λ i. ((store.row ∙ a.row) i, (store.count ∙ next_is) i, sym c.into_end-low_end.ensures.disk i)) (store.ready.stands tt);
         high_stands = subst (λ (z : ℕ × Plain). HighDiskStands generated_row z.0 z.1.bytes) (λ i. (removed_is i, sym c.into_end-high_end.ensures.disk i)) b.disk;
         recv_stands = subst (λ (z : List (List ℕ) × Plain). RecvStands generated_row z.0 z.1.bytes) (λ i. (messages i, sym c.into_end-high_end.ensures.recv i)) b.recv.stands;
       };
-  low_stopped = c.in_ok-raced.ensures.low_stopped;
-  high_stopped = c.in_ok-raced.ensures.high_stopped;
+  low_stopped = c.in_ok-raced.ensures.low_ends.stops;
+  high_stopped = c.in_ok-raced.ensures.high_ends.stops;
   asked_high =
       let r = c.in_ok-raced.ensures in
       let H = g.H.Gate in
-      subst (λ (z : ℕ × Plain). AsksHigh z.0 c.in_ok-raced.raced.high_stopped (H.asked c.args.high_gate.now) (H.asked c.run_halves.new.high_gate) z.1.bytes) (λ i. (r.high_count i, sym c.into_end-high_end.ensures.recv i)) r.high_asks;
+      subst (λ (z : ℕ × Plain). AsksHigh z.0 c.in_ok-raced.raced.high_stopped (H.asked c.args.high_gate.now) (H.asked c.run_halves.new.high_gate) z.1.bytes) (λ i. (r.high_stays.count i, sym c.into_end-high_end.ensures.recv i)) r.high_asks;
   nothing = tt;
 }
 

@@ -34,36 +34,24 @@ returns-in_err-disks g c = record {
 }
 
 pub start-low-requires : goal.start-low-requires
-start-low-requires g c =
-    let store = c.in_ok-disks.ensures.low in
-    record {
-      row = c.generated_row-row.ensures;
-      stands = c.ends-low_end.ensures.low new_high;
-      shape = c.ends-low_end.ensures.low_shape ∙ c.in_ok-passage.ensures.shape ∙ ap shape_of_row c.generated_row-row.ensures;
-      ready = store.ready;
-      zero = store.count;
-      of = store.row;
-      calm = store.calm;
-      room = store.room;
-      script = ap messages_in c.new-script.ensures;
-      some = c.requires.some;
-      few = c.requires.turn.few;
-    }
+start-low-requires g c = record {
+  row = c.generated_row-row.ensures;
+  stands = c.ends-low_end.ensures.low new_high;
+  shape = c.ends-low_end.ensures.low_shape ∙ c.in_ok-passage.ensures.shape ∙ ap shape_of_row c.generated_row-row.ensures;
+  store = c.in_ok-disks.ensures.low;
+  script = ap messages_in c.new-script.ensures;
+  some = c.requires.some;
+  few = c.requires.turn.few;
+}
 
 pub start-high-requires : goal.start-high-requires
-start-high-requires g c =
-    let store = c.in_ok-disks.ensures.high in
-    record {
-      row = c.generated_row-row.ensures;
-      stands = c.ends-low_end.ensures.high new_low;
-      ready = store.ready;
-      zero = store.count;
-      disk = store.stands;
-      calm = store.calm;
-      room = store.room;
-      receiver = c.in_ok-disks.ensures.receiver;
-      turn = c.requires.turn;
-    }
+start-high-requires g c = record {
+  row = c.generated_row-row.ensures;
+  stands = c.ends-low_end.ensures.high new_low;
+  store = c.in_ok-disks.ensures.high;
+  receiver = c.in_ok-disks.ensures.receiver;
+  turn = c.requires.turn;
+}
 
 pub returns : goal.returns
 returns g c = record {

@@ -1,9 +1,9 @@
-use Rattle.std.proofs.Common.{rules, ◌≤◌, false, sym, ap, ◌∙◌, subst}
+use Rattle.std.proofs.Common.{rules, sym, subst}
 use Rattle.std.proofs.lemmas.Result.{IfOk-from_err}
-use Rattle.pump_core.specs.Passage.{new_low}
-use Rattle.high_process.specs.States.{removed_of}
 use Rattle.high_receiver.specs.Receiving.{recv_disk}
-use Rattle.race.specs.HighHalf.{HighAt}
+use Rattle.race.specs.HighHalf.{HighStays}
+use Rattle.race.specs.HighWorks.{HighEnds}
+use Rattle.race.specs.LowHalf.{LowStays}
 use Rattle.race.specs.LowWorks.{IsLowDone}
 use Rattle.race.specs.Turns.{AsksHigh, CountsStop}
 use Rattle.race.specs.declared.high.HighHalf.{HighHalf}
@@ -15,19 +15,11 @@ use Rattle.race.proofs.running.run_halves.Goals as goal
 pub returns-in_err-try_run_pair : goal.returns-in_err-try_run_pair
 returns-in_err-try_run_pair g c = record {
   low = IfOk-from_err c.from_residual.result _ c.from_residual.ensures.0;
-  low_ended = IfOk-from_err c.from_residual.result _ c.from_residual.ensures.0;
-  low_stopped = IfOk-from_err c.from_residual.result _ c.from_residual.ensures.0;
-  low_place = IfOk-from_err c.from_residual.result _ c.from_residual.ensures.0;
-  seed = IfOk-from_err c.from_residual.result _ c.from_residual.ensures.0;
-  low_count = IfOk-from_err c.from_residual.result _ c.from_residual.ensures.0;
-  high = IfOk-from_err c.from_residual.result _ c.from_residual.ensures.0;
-  high_ended = IfOk-from_err c.from_residual.result _ c.from_residual.ensures.0;
-  high_stopped = IfOk-from_err c.from_residual.result _ c.from_residual.ensures.0;
+  low_ends = IfOk-from_err c.from_residual.result _ c.from_residual.ensures.0;
+  low_stays = IfOk-from_err c.from_residual.result _ c.from_residual.ensures.0;
+  high_ends = IfOk-from_err c.from_residual.result _ c.from_residual.ensures.0;
   high_asks = IfOk-from_err c.from_residual.result _ c.from_residual.ensures.0;
-  high_place = IfOk-from_err c.from_residual.result _ c.from_residual.ensures.0;
-  high_shape = IfOk-from_err c.from_residual.result _ c.from_residual.ensures.0;
-  high_count = IfOk-from_err c.from_residual.result _ c.from_residual.ensures.0;
-  times = IfOk-from_err c.from_residual.result _ c.from_residual.ensures.0;
+  high_stays = IfOk-from_err c.from_residual.result _ c.from_residual.ensures.0;
   nothing = onerr_always c.from_residual.result (search rules);
 }
 
@@ -46,18 +38,13 @@ returns g c =
     record {
       low = low_ran g.K.Clock.reads g.K.Clock.floor g.O.Sink.written g.O.Sink.faults g.L.LowSide.stands g.L.LowSide.place g.L.LowSide.shape g.G.Gate.asked g.G.Gate.stops
           _ c.try_run_pair.new.low _ _ _ _ _ low clock out tape low_gate d.low;
-      low_ended = λ on. subst (λ (x : LowHalf g.row.L.Denot). IsLowDone x) (sym low) (d.low.ended on);
-      low_stopped = subst (λ (x : g.row.G.Denot). CountsStop c.try_run_pair.new.low.is_stopped (g.G.Gate.stops c.args.low_gate.now) (g.G.Gate.stops x)) (sym low_gate) so_far.stops_so;
-      low_place = ap (λ (x : LowHalf g.row.L.Denot). g.L.LowSide.place x.ends) low ∙ so_far.keeps.place_stays;
-      seed = ap (λ (x : LowHalf g.row.L.Denot). x.seed) low ∙ so_far.keeps.seed;
-      low_count = ap (λ (x : LowHalf g.row.L.Denot). x.count) low ∙ so_far.keeps.count;
-      high = (d.high.any.0, subst (λ (x : HighHalf g.row.H.Denot). g.H.HighSide.stands x.ends new_low d.high.any.0) (sym high) d.high.any.1);
-      high_ended = λ on. subst (λ (x : HighHalf g.row.H.Denot). HighAt g.H.HighSide.stands false x × (x.count ≤ removed_of x.process)) (sym high) (d.high.ended on);
-      high_stopped = subst (λ (x : g.row.I.Denot). CountsStop c.try_run_pair.new.high.is_stopped (g.I.Gate.stops c.args.high_gate.now) (g.I.Gate.stops x)) (sym high_gate) d.high.stops_so;
+      low_ends = record {
+        done = λ on. subst (λ (x : LowHalf g.row.L.Denot). IsLowDone x) (sym low) (d.low.ended on);
+        stops = subst (λ (x : g.row.G.Denot). CountsStop c.try_run_pair.new.low.is_stopped (g.G.Gate.stops c.args.low_gate.now) (g.G.Gate.stops x)) (sym low_gate) so_far.stops_so;
+      };
+      low_stays = subst (λ (x : LowHalf g.row.L.Denot). LowStays g.L.LowSide.place g.L.LowSide.shape c.args.low.now x) (sym low) so_far.keeps.stays;
+      high_ends = subst (λ (z : HighHalf g.row.H.Denot × g.row.I.Denot). HighEnds g.H.HighSide.stands z.0 c.try_run_pair.new.high.is_stopped (g.I.Gate.stops c.args.high_gate.now) (g.I.Gate.stops z.1)) (λ i. (sym high i, sym high_gate i)) d.high.ends;
       high_asks = subst (λ (z : HighHalf g.row.H.Denot × g.row.I.Denot). AsksHigh z.0.count c.try_run_pair.new.high.is_stopped (g.I.Gate.asked c.args.high_gate.now) (g.I.Gate.asked z.1) (recv_disk z.0.receiver).bytes) (λ i. (sym high i, sym high_gate i)) d.high.asks;
-      high_place = ap (λ (x : HighHalf g.row.H.Denot). g.H.HighSide.place x.ends) high ∙ d.high.keeps.place_stays;
-      high_shape = ap (λ (x : HighHalf g.row.H.Denot). g.H.HighSide.shape x.ends) high ∙ d.high.keeps.shape_stays;
-      high_count = ap (λ (x : HighHalf g.row.H.Denot). x.count) high ∙ d.high.keeps.count;
-      times = ap (λ (x : HighHalf g.row.H.Denot). x.times) high ∙ d.high.keeps.times;
+      high_stays = subst (λ (x : HighHalf g.row.H.Denot). HighStays g.H.HighSide.place g.H.HighSide.shape c.args.high.now x) (sym high) d.high.keeps.stays;
       nothing = tt;
     }

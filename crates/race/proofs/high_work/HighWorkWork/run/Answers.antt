@@ -4,6 +4,7 @@ use Rattle.pump_link.proofs.Grown.{Grows-nil}
 use Rattle.high_process.specs.States.{removed_of}
 use Rattle.race.specs.HighHalf.{HighAt}
 use Rattle.race.proofs.HighAsks.{all_removed, none_taken, more_taken, given_back, asks_more, asks_of_all, asks_of_stopped}
+use Rattle.race.proofs.KeptHalves.{stays_on}
 use Rattle.race.proofs.Stops.{none_counted}
 use Rattle.race.proofs.high_work.HighWorkWork.run.Goals as goal
 
@@ -11,10 +12,10 @@ pub loop-init : goal.loop-init
 loop-init g c = (
   [],
   record {
-    keeps = record { half = refl; gate = refl; place_stays = refl; shape_stays = refl; count = refl; times = refl };
-    at = c.requires.0;
-    going = c.requires.2;
-    taken = none_taken g.H.HighSide.stands _ c.requires.0 c.requires.1;
+    keeps = record { half = refl; gate = refl; stays = record { place_is = refl; shape_is = refl; count = refl; times = refl } };
+    at = c.requires.0.at;
+    going = c.requires.1;
+    taken = none_taken g.H.HighSide.stands _ c.requires.0.at c.requires.0.none_removed;
     asks = Grows-nil _;
     stops_stay = refl;
   },
@@ -34,10 +35,7 @@ loop-preserved-then-has_taken g c =
         keeps = record {
           half = s.keeps.half;
           gate = s.keeps.gate;
-          place_stays = e.place ∙ s.keeps.place_stays;
-          shape_stays = e.shape ∙ s.keeps.shape_stays;
-          count = e.count ∙ s.keeps.count;
-          times = e.times ∙ s.keeps.times;
+          stays = stays_on g.H.HighSide.place g.H.HighSide.shape _ was _ s.keeps.stays e.stays;
         };
         at = e.at;
         going = s.going;
@@ -64,10 +62,8 @@ loop-preserved-then-not-has_taken g c =
         keeps = record {
           half = s.keeps.half;
           gate = s.keeps.gate;
-          place_stays = ap g.H.HighSide.place f.ends ∙ e.place ∙ s.keeps.place_stays;
-          shape_stays = ap g.H.HighSide.shape f.ends ∙ e.shape ∙ s.keeps.shape_stays;
-          count = f.count ∙ e.count ∙ s.keeps.count;
-          times = f.times ∙ e.times ∙ s.keeps.times;
+          stays = stays_on g.H.HighSide.place g.H.HighSide.shape _ was _ s.keeps.stays
+              (record { place_is = ap g.H.HighSide.place f.ends ∙ e.stays.place_is; shape_is = ap g.H.HighSide.shape f.ends ∙ e.stays.shape_is; count = f.count ∙ e.stays.count; times = f.times ∙ e.stays.times });
         };
         at = f.at;
         going = s.going;
@@ -94,10 +90,8 @@ loop-preserved g c =
         keeps = record {
           half = s.keeps.half;
           gate = s.keeps.gate;
-          place_stays = ap g.H.HighSide.place f.ends ∙ e.place ∙ s.keeps.place_stays;
-          shape_stays = ap g.H.HighSide.shape f.ends ∙ e.shape ∙ s.keeps.shape_stays;
-          count = f.count ∙ e.count ∙ s.keeps.count;
-          times = f.times ∙ e.times ∙ s.keeps.times;
+          stays = stays_on g.H.HighSide.place g.H.HighSide.shape _ was _ s.keeps.stays
+              (record { place_is = ap g.H.HighSide.place f.ends ∙ e.stays.place_is; shape_is = ap g.H.HighSide.shape f.ends ∙ e.stays.shape_is; count = f.count ∙ e.stays.count; times = f.times ∙ e.stays.times });
         };
         at = f.at;
         going = s.going;
@@ -117,9 +111,11 @@ returns-then-is_done g c =
     let all = c.is_done.ensures.yes c.if-is_done.true in
     record {
       keeps = s.keeps;
-      any = (s.at.high, s.at.fitting.0);
-      ended = λ e. (all_removed stands c.loop.has_taken w s.at all, all);
-      stops_so = none_counted c.loop.self.is_stopped (g.G.Gate.stops c.args.self.now.gate.now) (g.G.Gate.stops c.loop.self.gate.now) s.going s.stops_stay;
+      ends = record {
+        any = (s.at.high, s.at.fitting.0);
+        done = λ e. (all_removed stands c.loop.has_taken w s.at all, all);
+        stops = none_counted c.loop.self.is_stopped (g.G.Gate.stops c.args.self.now.gate.now) (g.G.Gate.stops c.loop.self.gate.now) s.going s.stops_stay;
+      };
       asks = asks_of_all stands c.loop.has_taken c.loop.self.is_stopped w i.0 _ _ s.at s.taken s.asks s.going all;
     }
 
@@ -133,13 +129,12 @@ returns-then-not-pass g c =
       keeps = record {
         half = s.keeps.half;
         gate = s.keeps.gate;
-        place_stays = s.keeps.place_stays;
-        shape_stays = s.keeps.shape_stays;
-        count = s.keeps.count;
-        times = s.keeps.times;
+        stays = s.keeps.stays;
       };
-      any = (s.at.high, s.at.fitting.0);
-      ended = λ e. absurd (cc);
-      stops_so = subst (λ (n : ℕ). Rose n (g.G.Gate.stops c.pass.new.self)) s.stops_stay (c.pass.ensures.stopped c.if-not-pass.true);
+      ends = record {
+        any = (s.at.high, s.at.fitting.0);
+        done = λ e. absurd (cc);
+        stops = subst (λ (n : ℕ). Rose n (g.G.Gate.stops c.pass.new.self)) s.stops_stay (c.pass.ensures.stopped c.if-not-pass.true);
+      };
       asks = asks_of_stopped stands c.loop.has_taken w i.0 _ _ s.at s.taken (asks_more _ _ _ false i.0 c.loop.looks c.taken-taken.result i.2 (c.taken-taken.ensures ∙ s.taken) s.asks c.pass.ensures.asked);
     }

@@ -25,7 +25,7 @@ pub loop-init : goal.loop-init
 loop-init g c = (
   [],
   record {
-    keeps = record { half = refl; clock = refl; out = refl; tape = refl; gate = refl; place_stays = refl; seed = refl; count = refl };
+    keeps = record { half = refl; clock = refl; out = refl; tape = refl; gate = refl; stays = record { place_is = refl; shape_is = refl; seed = refl; count = refl } };
     at = c.requires.at;
     order = c.requires.order;
     row = c.requires.row;
@@ -63,6 +63,7 @@ loop-preserved g c =
     let m = made_by generated_row x in
     let K = g.K.Clock in
     let O = g.O.Sink in
+    let looked = c.look_with-made.ensures.stays in
     let done = acks_are g.L.LowSide.stands g.L.LowSide.shape c.loop.self.half.now (messages_in c.loop.self.half.now.script) made s.at c.acknowledged-acknowledged.result c.acknowledged-acknowledged.ensures.idle c.acknowledged-acknowledged.ensures.busy in
     let (left, at, offer) = c.next_frame-comes.ensures.offer made s.at in (
       m ∷ made,
@@ -73,9 +74,12 @@ loop-preserved g c =
           out = s.keeps.out;
           tape = s.keeps.tape;
           gate = s.keeps.gate;
-          place_stays = c.look_with-made.ensures.place ∙ ap (λ e. g.L.LowSide.place e) c.next_frame-comes.ensures.ends ∙ s.keeps.place_stays;
-          seed = c.look_with-made.ensures.seed ∙ c.next_frame-comes.ensures.seed ∙ s.keeps.seed;
-          count = c.look_with-made.ensures.count ∙ c.next_frame-comes.ensures.count ∙ s.keeps.count;
+          stays = record {
+            place_is = looked.place_is ∙ ap (λ e. g.L.LowSide.place e) c.next_frame-comes.ensures.ends ∙ s.keeps.stays.place_is;
+            shape_is = looked.shape_is ∙ ap (λ e. g.L.LowSide.shape e) c.next_frame-comes.ensures.ends ∙ s.keeps.stays.shape_is;
+            seed = looked.seed ∙ c.next_frame-comes.ensures.seed ∙ s.keeps.stays.seed;
+            count = looked.count ∙ c.next_frame-comes.ensures.count ∙ s.keeps.stays.count;
+          };
         };
         at = c.look_with-made.ensures.at made left at offer;
         order = omega (arith, c.look_with-made.ensures.last, c.moment-moment.ensures.to);
@@ -107,7 +111,7 @@ returns-then-not-pass g c =
     record {
       made = made;
       so_far = record {
-        keeps = record { half = s.keeps.half; clock = s.keeps.clock; out = s.keeps.out; tape = s.keeps.tape; gate = s.keeps.gate; place_stays = s.keeps.place_stays; seed = s.keeps.seed; count = s.keeps.count };
+        keeps = record { half = s.keeps.half; clock = s.keeps.clock; out = s.keeps.out; tape = s.keeps.tape; gate = s.keeps.gate; stays = s.keeps.stays };
         at = s.at;
         order = s.order;
         row = s.row;

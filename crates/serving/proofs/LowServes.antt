@@ -4,7 +4,7 @@ use Rattle.std.specs.Prelude.{Result, Ok, Err, OnOk, OnErr, is_err, is_some, map
 use Rattle.std.specs.List.{All}
 use Rattle.std.specs.Option.{option_to_list}
 use Rattle.std.specs.Io.KnownBytes.{Appends}
-use Rattle.rand_chacha.specs.ChaCha.{ChaCha, key_of}
+use Rattle.rand_chacha.specs.ChaCha.{ChaCha}
 use Rattle.delay_table.specs.Streams.{AreWords}
 use Rattle.disk_model.specs.Disk.{Meaning}
 use Rattle.pump_frame.specs.Rows.{IsLawfulRow}
@@ -44,6 +44,7 @@ use Rattle.serving.specs.Finding.{AtOpening, FindsBoth, between_hands, low_openi
 use Rattle.serving.specs.LowRuns.{LowLent, found_in, opening_text}
 use Rattle.serving.specs.LowServing.{DidLow, LowServed, is_lost}
 use Rattle.serving.specs.PassageEnds.{EndTells}
+use Rattle.serving.specs.Starting.{LowBegins}
 use Rattle.relay_side.specs.Sides.{SideTells}
 use Rattle.serving.specs.declared.low_half.LowParts.{LowParts}
 
@@ -99,33 +100,32 @@ lost_is phases.Down hand = refl
 module _ {D L S E Place : Type 0} (t : DoorsTell D L) (m : Meaning S) (e : EndTells E Place) (row : SessionRow) (rounds : ℕ) (key : List ℕ) (side : SideTells D L)
     (written now_written : Option (List ℕ)) (faults now_faults : ℕ) (o : AtOpening) (v w : LowParts ChaCha S E) (was : LowStore S) (disk high now_disk : S) (end : RoundsEnd)
     (lent : LowLent t m words_given e side written now_written faults now_faults row.low_port rounds v w end)
-    (row_is : row_of v.process ≡ row) (next_is : next_of v.process ≡ o.count) (hand_is : hand_of v.process ≡ o.low_hand) (held_is : v.is_held ≡ is_some o.low_hand)
-    (lived : Lives v.process (low_opening o) []) (words_are : v.words ≡ record { key = key_of key; stream = 0; word_pos = 0 }) (store_was : v.store ≡ was) (now_is : now_disk ≡ low_disk w.store)
+    {first : E} (start : LowBegins e.stands row o.count o.low_hand was first key v) (now_is : now_disk ≡ low_disk w.store)
     (found : FindsBoth m row o disk high) (same : m.tells → m.reading (low_disk was) ≡ m.reading disk) (counts : m.count disk ≤ m.count (low_disk was)) where
   abbrev made : List Made
   made = stayed [] lent.ran.stays
 
   row_after : row_of w.process ≡ row
-  row_after = lent.ran.so.row ∙ row_is
+  row_after = lent.ran.so.row ∙ start.row_is
 
   lives_on : Lives w.process (low_opening o) made
-  lives_on = lent.ran.so.lives (low_opening o) [] lived
+  lives_on = lent.ran.so.lives (low_opening o) [] start.lives
 
   -- what is to be written is the record of all looks
   record_is : opening_text v ++ text_in (row_of v.process) lent.ran.stays ≡ record_text row (low_opening o) made
   record_is =
-      ap (λ (b : List ℕ). opening_text v ++ b) (lent.ran.is_record (low_opening o) lived)
-      ∙ ap (λ (x : SessionRow × ℕ × Bool). first_text x.0 (record { count = x.1; is_held = x.2 }) ++ looks_text x.0 (record_of made)) (λ i. (row_is i, next_is i, held_is i))
+      ap (λ (b : List ℕ). opening_text v ++ b) (lent.ran.is_record (low_opening o) start.lives)
+      ∙ ap (λ (x : SessionRow × ℕ × Bool). first_text x.0 (record { count = x.1; is_held = x.2 }) ++ looks_text x.0 (record_of made)) (λ i. (start.row_is i, start.next_is i, start.held_is i))
       ∙ append_assoc (line_text (opening_line row (low_opening o))) (coarse_text row) (looks_text row (record_of made))
 
   begins : IsCount o.count (is_some o.low_hand) → BeginsReadable row (low_opening o)
-  begins = subst (λ (x : SessionRow × ℕ × Bool). IsCount x.1 x.2 → BeginsReadable x.0 (record { count = x.1; is_held = x.2 })) (λ i. (row_is i, next_is i, held_is i)) lent.ran.begins
+  begins = subst (λ (x : SessionRow × ℕ × Bool). IsCount x.1 x.2 → BeginsReadable x.0 (record { count = x.1; is_held = x.2 })) (λ i. (start.row_is i, start.next_is i, start.held_is i)) lent.ran.begins
 
   are_stays : AreStays row (low_opening o) [] lent.ran.stays
-  are_stays = subst (λ (r : SessionRow). AreStays r (low_opening o) [] lent.ran.stays) row_is (lent.ran.so.rule (low_opening o) [] lived)
+  are_stays = subst (λ (r : SessionRow). AreStays r (low_opening o) [] lent.ran.stays) start.row_is (lent.ran.so.rule (low_opening o) [] start.lives)
 
   first_counts : m.count disk ≤ m.count (low_disk v.store)
-  first_counts = subst (λ (x : LowStore S). m.count disk ≤ m.count (low_disk x)) (sym store_was) counts
+  first_counts = subst (λ (x : LowStore S). m.count disk ≤ m.count (low_disk x)) (sym start.store_is) counts
 
   -- ---- the disk ----
 
@@ -148,8 +148,8 @@ module _ {D L S E Place : Type 0} (t : DoorsTell D L) (m : Meaning S) (e : EndTe
   stands_first told parts cut =
       let none : parts ≡ [] = one_cut (row_of v.process) (life_made (low_opening o) []) parts [] cut (record { are_parts = tt; looks = refl }) in
       let all : o.messages ≡ o.messages ++ payloads (stored_in parts) = sym (append-nil o.messages) ∙ ap (λ (z : List Part). o.messages ++ payloads (stored_in z)) (sym none) in
-      let there : m.reading disk ≡ m.reading (low_disk v.store) = sym (same told) ∙ ap (λ (z : LowStore S). m.reading (low_disk z)) (sym store_was) in
-      subst (λ (z : SessionRow × List (List ℕ) × List ℕ). StandsForLast z.0 o.removed z.1 z.2) (λ i. (sym row_is i, all i, there i))
+      let there : m.reading disk ≡ m.reading (low_disk v.store) = sym (same told) ∙ ap (λ (z : LowStore S). m.reading (low_disk z)) (sym start.store_is) in
+      subst (λ (z : SessionRow × List (List ℕ) × List ℕ). StandsForLast z.0 o.removed z.1 z.2) (λ i. (sym start.row_is i, all i, there i))
       (stands_for_last row o.count o.removed o.messages (m.reading disk) found.count (found.low_stands told))
 
   -- the life that goes on from nothing
@@ -158,7 +158,7 @@ module _ {D L S E Place : Type 0} (t : DoorsTell D L) (m : Meaning S) (e : EndTe
 
   stored_by : m.tells → is_lost (phase_after row (low_opening o) lived_parts) ≡ false → StandsForLast row o.removed (o.messages ++ payloads (stored_in lived_parts)) (m.reading now_disk)
   stored_by told sound =
-      let has = lent.ran.stores told (is_up sound) (low_opening o) [] o.removed o.messages lived (stands_first told) in
+      let has = lent.ran.stores told (is_up sound) (low_opening o) [] o.removed o.messages start.lives (stands_first told) in
       subst (λ (z : SessionRow × S). StandsForLast z.0 o.removed (o.messages ++ payloads (stored_in lived_parts)) (m.reading z.1)) (λ i. (row_after i, sym now_is i)) (has lived_parts cut_on)
 
   -- ---- the end of the passage ----
@@ -173,12 +173,12 @@ module _ {D L S E Place : Type 0} (t : DoorsTell D L) (m : Meaning S) (e : EndTe
   has_first : HasAll (row_of v.process) (low_opening o) [] first_items (between_hands row o) (hand_of v.process)
   has_first parts cut =
       let none : parts ≡ [] = one_cut (row_of v.process) (life_made (low_opening o) []) parts [] cut (record { are_parts = tt; looks = refl }) in
-      ap (λ (x : Option Item). between_hands row o ++ option_to_list x) hand_is ∙ sym (append-nil first_items) ∙ ap (λ (z : List Part). first_items ++ stored_in z) (sym none)
+      ap (λ (x : Option Item). between_hands row o ++ option_to_list x) start.hand_is ∙ sym (append-nil first_items) ∙ ap (λ (z : List Part). first_items ++ stored_in z) (sym none)
 
   low_did : (e.shape v.ends).places ≡ row.capacity - 2 → StandsFitting (e.stands v.ends) v.process first_low new_high → (l : Low) × e.stands w.ends l new_high × DidLow row o made l
   low_did places fits =
       let done = lent.ran.does first_low new_high fits in
-      let all = done.all (low_opening o) [] first_items lived has_first in (
+      let all = done.all (low_opening o) [] first_items start.lives has_first in (
         done.low,
         done.stands.0,
         record {
@@ -196,9 +196,9 @@ module _ {D L S E Place : Type 0} (t : DoorsTell D L) (m : Meaning S) (e : EndTe
       let done = lent.ran.does first_low new_high fits in
       subst NeverFall done.pairs_are (done.falls tt)
 
-  low_served : IsLawfulRow row → IsCount o.count (is_some o.low_hand) → IsEndOf e.stands e.shape v.ends (row_of v.process) → StandsFitting (e.stands v.ends) v.process first_low new_high → (l : Low) → DidLow row o made l
+  low_served : IsLawfulRow row → IsEndOf e.stands e.shape v.ends (row_of v.process) → StandsFitting (e.stands v.ends) v.process first_low new_high → (l : Low) → DidLow row o made l
       → LowServed t m row rounds key side written now_written faults now_faults o l disk now_disk end
-  low_served lawful counted end_is_rows fits l did = record {
+  low_served lawful end_is_rows fits l did = record {
     is_opened = lent.ran.is_opened;
     stays = lent.ran.stays;
     are = are_stays;
@@ -214,10 +214,10 @@ module _ {D L S E Place : Type 0} (t : DoorsTell D L) (m : Meaning S) (e : EndTe
     };
     links = lent.ran.links;
     moments = lent.ran.moments;
-    words = subst (λ (s : ChaCha). words_given s (words_in lent.ran.stays)) words_are (Draws-all (words_given v.words) (words_given w.words) (words_in lent.ran.stays) (no_words w.words) lent.ran.words);
+    words = subst (λ (s : ChaCha). words_given s (words_in lent.ran.stays)) start.words_are (Draws-all (words_given v.words) (words_given w.words) (words_in lent.ran.stays) (no_words w.words) lent.ran.words);
     tape = subst (Reaches (Appends written now_written) faults now_faults (is_kept_by (Some end))) record_is lent.ran.tape;
-    readable = record { opening = (begins counted).opening; coarse = (begins counted).coarse; looks = stays_readable row (low_opening o) lent.ran.stays lawful are_stays };
-    levels = subst (λ (z : SessionRow). TellLevels z made) row_is (lent.ran.levels end_is_rows);
+    readable = record { opening = (begins start.counted).opening; coarse = (begins start.counted).coarse; looks = stays_readable row (low_opening o) lent.ran.stays lawful are_stays };
+    levels = subst (λ (z : SessionRow). TellLevels z made) start.row_is (lent.ran.levels end_is_rows);
     rising = rising fits;
     did = did;
     left = λ told. (lived_parts, subst (λ (r : SessionRow). IsCut r (life_made (low_opening o) made) lived_parts) row_after lives_on.stands.stands.cut, λ sound. (left_by told sound, stored_by told sound));
@@ -225,8 +225,8 @@ module _ {D L S E Place : Type 0} (t : DoorsTell D L) (m : Meaning S) (e : EndTe
   }
 
   -- what it did, and what its end stands for then
-  pub low_done : IsLawfulRow row → IsCount o.count (is_some o.low_hand) → IsEndOf e.stands e.shape v.ends (row_of v.process) → (e.shape v.ends).places ≡ row.capacity - 2 → StandsFitting (e.stands v.ends) v.process first_low new_high
+  pub low_done : IsLawfulRow row → IsEndOf e.stands e.shape v.ends (row_of v.process) → (e.shape v.ends).places ≡ row.capacity - 2 → StandsFitting (e.stands v.ends) v.process first_low new_high
       → (l : Low) × e.stands w.ends l new_high × LowServed t m row rounds key side written now_written faults now_faults o l disk now_disk end
-  low_done lawful counted end_is_rows places fits =
+  low_done lawful end_is_rows places fits =
       let (l, stands, did) = low_did places fits in
-      (l, stands, low_served lawful counted end_is_rows fits l did)
+      (l, stands, low_served lawful end_is_rows fits l did)

@@ -4,14 +4,14 @@ ghost use Rattle.high_process.specs.Ready.{Ready};
 ghost use Rattle.high_process.specs.States.{last_of};
 ghost use Rattle.relay_side.specs.Sides.{side};
 ghost use Rattle.serving.specs.Doors.{doors, links};
-ghost use Rattle.serving.specs.HighRuns.{HighRan, HighDone};
+ghost use Rattle.serving.specs.HighRuns.{HighDone};
 ghost use Rattle.serving.specs.PassageEnds.{end_tells};
 
 use crate::works::ServesHigh;
 use disk_model::Disk;
 use high_process::HighProcess;
 use passage::WaitHighEnd;
-use pump_link::{Clock, Door, Ports};
+use pump_link::{Clock, Ports};
 use relay_side::RelaySide;
 use relay_threads::{RoundsEnd, Watch, high_rounds};
 use stable_buffer::HighStore;
@@ -32,33 +32,6 @@ pub struct HighHalf<P: Ports, D, H> {
     pub parts: HighParts<D, H>,
     /// How the worker ended.
     pub end: RoundsEnd,
-}
-
-// The rounds of the high worker.
-fn serve_high<T: Wait, R: Door, K: Clock, D: Disk, H: WaitHighEnd, V: Watch>(
-    rt: &T,
-    door: &mut R,
-    parts: &mut HighParts<D, H>,
-    clock: &mut K,
-    watch: &V,
-    rounds: u32,
-) -> RoundsEnd
-    requires ready { Ready D.told parts.old.process parts.old.store (H.stands parts.old.ends) }
-    requires order { last_of parts.old.process ≤ K.floor clock.old }
-    ensures { HighRan (doors R.port R.did R.gives (links R.Link.gives R.Link.sent R.Link.faults)) D.told
-        (end_tells H.stands H.shape H.place) (K.reads clock.old) (K.reads clock.new) rounds door.old door.new parts.old
-        parts.new result }
-{
-    high_rounds(
-        rt,
-        door,
-        clock,
-        &mut parts.process,
-        &mut parts.store,
-        &mut parts.ends,
-        watch,
-        rounds,
-    )
 }
 
 impl<P: Ports, K: Clock, D: Disk, H: WaitHighEnd> ServesHigh<RelaySide<P, K>>
@@ -82,8 +55,16 @@ impl<P: Ports, K: Clock, D: Disk, H: WaitHighEnd> ServesHigh<RelaySide<P, K>>
             return;
         };
         watch.high_began();
-        let parts = &mut self.parts;
-        self.end = serve_high(rt, &mut door, parts, &mut side.clock, watch, rounds);
+        self.end = high_rounds(
+            rt,
+            &mut door,
+            &mut side.clock,
+            &mut self.parts.process,
+            &mut self.parts.store,
+            &mut self.parts.ends,
+            watch,
+            rounds,
+        );
         side.ports.shut(door);
         watch.high_ended(self.end);
     }

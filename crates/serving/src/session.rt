@@ -101,7 +101,6 @@ where
         (side P.did P.faults K.reads low_side.old low_side.new) (side P.did P.faults K.reads high_side.old
         high_side.new) (O.written tape.old) (O.written tape.new) (O.faults tape.old) (O.faults tape.new)
         parts.low parts.high (low_in result) (high_in result) ends) × (b.l ≡ l) × (b.h ≡ h))) }
-    ensures some_memory { end_in result ≡ SessionEnd.Memory → ⊥ }
     ensures comes { SessionComes P.did P.faults D.told serving.now.row.now low_side.old high_side.old low_side.new
         high_side.new tape.old tape.new parts.low parts.high (low_in result) (high_in result) (end_in result) }
 {

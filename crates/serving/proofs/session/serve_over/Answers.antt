@@ -40,7 +40,6 @@ returns-in-Err g c =
     let r = c.in-Err.refused in
     record {
       ended = refl;
-      some_memory = λ is. absurd (cc);
       comes = record {
         opens = (rose_so g.D.Disk.told c.args.serving.now.row.now r.role (is_device r.why) c.args.parts.low c.args.parts.high r.low r.high e.role e.calls_low e.calls_high, e.exact);
         wanting = λ is. absurd (cc);
@@ -72,12 +71,12 @@ returns-in-Ok-ends-clause-ended g c =
     let high_lent = if_ok served.result.ends ends _ c.in-Ok-ends.is served.ensures.high in
     let (l, low_stands, low) =
     low_done _ m _ row _ c.args.serving.now.key _ _ _ _ _ o s.result served.result.low p.low c.args.parts.low c.args.parts.high c.into_disk-low_disk.result ends.low low_lent
-    s.ensures.begins.row_is s.ensures.begins.next_is s.ensures.begins.hand_is s.ensures.begins.held_is s.ensures.begins.lives s.ensures.begins.words_are s.ensures.begins.store_is c.into_disk-low_disk.ensures found e.moves_low.reads e.calls_low.counts c.requires.lawful s.ensures.begins.counted
+    s.ensures.begins c.into_disk-low_disk.ensures found e.moves_low.reads e.calls_low.counts c.requires.lawful
     (still_end g.L.LowSide.stands g.L.LowSide.shape c.args.parts.low_end s.result.ends row (row_of s.result.process) shape s.ensures.begins.row_is c.requires.averages) (ap (λ (x : Shape). x.places) shape ∙ c.requires.shape)
     (s.ensures.begins.fits _ new_high (dealt.fills new_low new_high c.requires.low_end refl) (comes_next row.capacity p.removed p.next messages p.high_hand p.low_hand (row_capacity row c.requires.lawful).0 dealt.count dealt.places e.hands)) in
     let (high_end, high_stands, high) =
     high_done _ m _ row _ _ o h.result served.result.high p.high c.args.parts.high c.into_disk-high_disk.result ends.high high_lent
-    h.ensures.begins.row_is h.ensures.begins.stood h.ensures.begins.store_is c.into_disk-high_disk.ensures (high_calls m row c.args.parts.low c.args.parts.high (high_disk p.high) _ e.calls_high) l (h.ensures.begins.fits l) in
+    h.ensures.begins c.into_disk-high_disk.ensures (high_calls m row c.args.parts.low c.args.parts.high (high_disk p.high) _ e.calls_high) l (h.ensures.begins.fits l) in
     record {
       low_still = (low_lent.ran.still.0 ∙ shape, low_lent.ran.still.1 ∙ ap g.L.LowSide.place s.ensures.begins.ends_are ∙ e.ends.1);
       high_still = (high_lent.ran.still.0 ∙ ap g.H.HighSide.shape h.ensures.begins.ends_are, high_lent.ran.still.1 ∙ ap g.H.HighSide.place h.ensures.begins.ends_are);

@@ -4,14 +4,14 @@ ghost use Rattle.low_process.specs.Ready.{Ready};
 ghost use Rattle.low_process.specs.Looks.{last_of, is_down};
 ghost use Rattle.relay_side.specs.Sides.{side};
 ghost use Rattle.serving.specs.Doors.{doors, links};
-ghost use Rattle.serving.specs.LowRuns.{LowRan, LowDone};
+ghost use Rattle.serving.specs.LowRuns.{LowDone};
 ghost use Rattle.serving.specs.PassageEnds.{end_tells};
 
 use crate::works::ServesLow;
 use disk_model::Disk;
 use low_process::LowProcess;
 use passage::WaitLowEnd;
-use pump_link::{Clock, Door, Ports, Sink, Words};
+use pump_link::{Clock, Ports, Sink, Words};
 use relay_side::RelaySide;
 use relay_threads::{RoundsEnd, Watch, low_rounds, write_opening};
 use stable_buffer::LowStore;
@@ -37,43 +37,6 @@ pub struct LowHalf<P: Ports, W, D, L> {
     pub end: RoundsEnd,
 }
 
-// Writes the line that opens the record, and then makes the rounds of the low worker. Where the line is not
-// written whole, no round is made.
-fn serve_low<T: Wait, R: Door, K: Clock, W: Words, D: Disk, L: WaitLowEnd, O: Sink, V: Watch>(
-    rt: &T,
-    door: &mut R,
-    parts: &mut LowParts<W, D, L>,
-    clock: &mut K,
-    tape: &mut O,
-    watch: &V,
-    rounds: u32,
-) -> RoundsEnd
-    requires ready { Ready D.told parts.old.process parts.old.store (L.stands parts.old.ends) }
-    requires up { is_down parts.old.process ≡ false }
-    requires order { last_of parts.old.process ≤ K.floor clock.old }
-    ensures { LowRan (doors R.port R.did R.gives (links R.Link.gives R.Link.sent R.Link.faults)) D.told W.gives
-        (end_tells L.stands L.shape L.place) (K.reads clock.old) (K.reads clock.new)
-        (O.written tape.old) (O.written tape.new) (O.faults tape.old) (O.faults tape.new) rounds door.old door.new
-        parts.old parts.new result }
-{
-    let next = parts.process.next();
-    if write_opening(tape, parts.process.row(), next, parts.is_held).is_err() {
-        return RoundsEnd::RecordFailed;
-    }
-    low_rounds(
-        rt,
-        door,
-        clock,
-        &mut parts.words,
-        &mut parts.process,
-        &mut parts.store,
-        &mut parts.ends,
-        tape,
-        watch,
-        rounds,
-    )
-}
-
 impl<P: Ports, K: Clock, W: Words, D: Disk, L: WaitLowEnd, O: Sink> ServesLow<RelaySide<P, K>, O>
     for LowHalf<P, W, D, L> {
     ghost can_serve = { λ v k o. (is_some v.door ≡ true)
@@ -97,8 +60,25 @@ impl<P: Ports, K: Clock, W: Words, D: Disk, L: WaitLowEnd, O: Sink> ServesLow<Re
             return;
         };
         watch.low_began();
-        let parts = &mut self.parts;
-        self.end = serve_low(rt, &mut door, parts, &mut side.clock, tape, watch, rounds);
+        let next = self.parts.process.next();
+        let opened = write_opening(tape, self.parts.process.row(), next, self.parts.is_held);
+        // No round is made where the line that opens the record is not written whole.
+        self.end = if opened.is_err() {
+            RoundsEnd::RecordFailed
+        } else {
+            low_rounds(
+                rt,
+                &mut door,
+                &mut side.clock,
+                &mut self.parts.words,
+                &mut self.parts.process,
+                &mut self.parts.store,
+                &mut self.parts.ends,
+                tape,
+                watch,
+                rounds,
+            )
+        };
         side.ports.shut(door);
         watch.low_ended(self.end);
     }

@@ -183,7 +183,8 @@ LineGoes m first c line s t printed (outcomes.Stopped fault) = (d : Chained) × 
 LineGoes m first c line s t printed outcomes.Unwritten = ⊥
 
 -- so, and what it prints was added to what is held; or a prefix of what was held and of what it prints was written
-abbrev pub LineDoes : {D : Type 0} {g : _} → Meaning D → ℕ → Chained → Line → Chain D g → Chain D g → (held later : List ℕ)
+abbrev pub LineDoes : {D : Type 0} {g : _} → Meaning D → ℕ → Chained → Line → Chain D g → Chain D g
+    → (held later : List ℕ)
     → (old new : Option (List ℕ)) → Outcome → Type 0
 LineDoes m first c line s t held later old new outcomes.Unwritten =
     (printed : List Event) × (outcome : Outcome) × LineGoes m first c line s t printed outcome

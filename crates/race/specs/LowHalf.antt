@@ -96,7 +96,8 @@ pub record LowBegins {L : Type 0} (stands : L → Low → High → Type 0) (shap
   pub last : last_of w.process ≡ 0
 
 -- what looks leave as it is: whose end it has, and which messages it is to send
-pub record LowStays {L : Type 0} (place : L → List TableId) (shape : L → Shape) (before after : LowHalf L) : Type 0 where
+pub record LowStays {L : Type 0} (place : L → List TableId) (shape : L → Shape)
+    (before after : LowHalf L) : Type 0 where
   pub place_is : place after.ends ≡ place before.ends
   pub shape_is : shape after.ends ≡ shape before.ends
   pub seed : after.seed ≡ before.seed

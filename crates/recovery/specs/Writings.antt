@@ -8,7 +8,8 @@ use Rattle.stable_buffer.specs.Register.{value_of}
 use Rattle.stable_buffer.specs.Stands.{LowStands, HighStands}
 use Rattle.stable_buffer.specs.Log.{RecvStands}
 use Rattle.recovery.specs.Fillings.{IsMadeFrom}
-use Rattle.recovery.specs.Moves.{IsKept, Counted, IsMade, is_blamed, AreWritten, AreWrittenInTurn, low_bytes, high_bytes}
+use Rattle.recovery.specs.Moves.{IsKept, Counted, IsMade, is_blamed, AreWritten, AreWrittenInTurn}
+use Rattle.recovery.specs.Moves.{low_bytes, high_bytes}
 use Rattle.recovery.specs.declared.survey.Counts.{Counts}
 use Rattle.recovery.specs.declared.trio.Trio.{Trio}
 use Rattle.recovery.specs.declared.trio.MoveFault.{MoveFault}

@@ -27,8 +27,8 @@ pub record ComesFor {D : Type 0} {g : _} (d : Meaning D) (sessions : Sessions D 
   pub begins : begins_session line ≡ true → (sessions.is_under_way ≡ false) × (length sessions.begun.items < 16)
   pub first : stands_first line ≡ true → sessions.is_under_way ≡ false
 
--- the line was given to the replay `first` over the shelf `old`, with `written` written so far, and left them as `last`,
--- `new` and `after`. `before` is where the disks were when the script began
+-- the line was given to the replay `first` over the shelf `old`, with `written` written so far, and left them as
+-- `last`, `new` and `after`. `before` is where the disks were when the script began
 pub record LineGoes {S D : Type 0} {g : _} (m : Holdings S) (d : Meaning D) (old new : S) (first last : Replaying D g)
     (written after : Option (List ℕ)) (line : Line) (outcome : Outcome) : Type 0 where
   pub order : AreInOrder last.sessions
@@ -43,7 +43,8 @@ pub record LineGoes {S D : Type 0} {g : _} (m : Holdings S) (d : Meaning D) (old
   pub ready : outcome ≡ outcomes.Applied → (before : Places)
       → AllLend d before (m.disk old) first.sessions.begun.items
       → AllLend d before (m.disk new) last.sessions.begun.items × AllAreUp last.sessions.begun.items
-  pub quiet : TurnIsQuiet first.sessions last.sessions (held_of first.output) (held_of last.output) written after outcome
+  pub quiet : TurnIsQuiet first.sessions last.sessions (held_of first.output) (held_of last.output) written after
+      outcome
   pub stops : StopsByLine outcome
   pub device : (number : ℕ) (role : Role) → IsDeviceOutcomeOf number role outcome → (before : Places)
       → AllLend d before (m.disk old) first.sessions.begun.items

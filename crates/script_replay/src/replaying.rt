@@ -104,10 +104,11 @@ fn run<S: Shelf, I: Source, O: Sink>(
         replaying.new.sessions.begun.items }
     ensures rise { Rise replaying.new.sessions.begun.items }
     ensures device { (number : ℕ) (role : DiskRole) → IsDeviceFaultOf number role result
-        → DeviceFails S.told S.Disk.told (S.told.disk shelf.old) shelf.old shelf.new replaying.new.sessions.begun.items number
-        role }
+        → DeviceFails S.told S.Disk.told (S.told.disk shelf.old) shelf.old shelf.new
+        replaying.new.sessions.begun.items number role }
     ensures told { (number : ℕ) (role : DiskRole) → IsDeviceFaultOf number role result
-        → IfAlone (found_at number replaying.new.sessions.begun.items) (TellsFault (I.left script.old) (I.left script.new)) }
+        → IfAlone (found_at number replaying.new.sessions.begun.items)
+        (TellsFault (I.left script.old) (I.left script.new)) }
     ensures memory { result ≡ Ended.Memory → Appends (O.written out.old) (O.written out.new) [] }
     ensures later { S.told.disk_faults shelf.old ≤ S.told.disk_faults shelf.new }
     ensures write { result ≡ Ended.Write → Rose (O.faults out.old) (O.faults out.new) }

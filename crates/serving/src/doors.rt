@@ -150,7 +150,8 @@ where
         result.high ends.high) }
     ensures wanting { IfErr result.ends (λ why. why ≡ NoDoor
         → WantDoor (ports P.did P.faults low_side.old.ports low_side.new.ports)
-        (ports P.did P.faults high_side.old.ports high_side.new.ports) serving.now.row.now.low_port serving.now.row.now.high_port) }
+        (ports P.did P.faults high_side.old.ports high_side.new.ports) serving.now.row.now.low_port
+        serving.now.row.now.high_port) }
     ensures unstarted { IfErr result.ends (λ why. why ≡ NoThread
         → OpensAndShuts (ports P.did P.faults low_side.old.ports low_side.new.ports) serving.now.row.now.low_port
         × OpensAndShuts (ports P.did P.faults high_side.old.ports high_side.new.ports) serving.now.row.now.high_port) }

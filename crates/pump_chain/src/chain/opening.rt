@@ -35,7 +35,8 @@ fn open_one<D: Disk>(alloc: Global, row: &SessionRow, disks: Trio<D>) -> Result<
     ensures row { IfOk result (λ pump. row_of pump ≡ row.now) }
     ensures up { IfOk result (λ pump. is_down pump ≡ false) }
     ensures left { IfOk result (λ pump. AreLeft D.told row.now disks (trio_of pump) None) }
-    ensures back { IfErr result (λ e. IsUnopened D.told row.now disks (trio_back e) (cause_of row.now.id e.role e.why)) }
+    ensures back { IfErr result (λ e. IsUnopened D.told row.now disks (trio_back e)
+        (cause_of row.now.id e.role e.why)) }
     ensures stops { IfErr result (λ e. D.told.tells → (f : Found) → StandFor D.told row.now disks f
         → IsExcused (cause_of row.now.id e.role e.why)) }
     ensures room { D.told.tells_plan → HaveRoom D.told row.now disks

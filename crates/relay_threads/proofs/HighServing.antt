@@ -23,7 +23,7 @@ use Rattle.relay_threads.specs.declared.high_round.Plan.TheVariants.{End, Look}
 use Rattle.relay_threads.specs.Hearings.{Ending, AtFrame, AtBad, AtNotYet, AtEnded, AtFailed, AtMost, IsHearing, Leaves, heard_as, held_by, held_in}
 use Rattle.relay_threads.specs.Workers.{SendsPrefix}
 use Rattle.relay_threads.specs.HighRounds.{Made, Round, MakesLook, IsRound, GoOn, plan_of, frame_heard, cause, cause_by, cause_made, cause_look, why_of, is_frame, past_after, served, looks_of_rounds, looks_in_round, moments, data_sent, data_made, removes, removals, asks_before, asks_of, held_after, is_attached}
-use Rattle.relay_threads.specs.HighServes.{IsData, RoundMade, Serves, EndsBy, CountsFault, CountsFaultIn}
+use Rattle.relay_threads.specs.HighServes.{RoundMade, Serves, EndsBy, CountsFault, CountsFaultIn}
 use Rattle.pump_link.proofs.Grown.{Draws-nil, Draws-then, Grows-nil, Grows-then}
 
 -- what all of the outside told, exactly, while no round has ended the call
@@ -100,10 +100,6 @@ spellings_more session r rounds = flat_map-append spelling (data_sent session ro
 
 pub told_none : (gave : List Looked → Type 0) (s read : List ℕ → Type 0) (asked : List (ℕ × ℕ) → Type 0) (session : ℕ) → Told gave gave s s read read asked asked session []
 told_none gave s read asked session = record { looks = Draws-nil gave; bytes = Grows-nil s; moments = Draws-nil read; asks = Grows-nil asked }
-
--- the row stays, and with it the session of the frame that is sent
-pub data_at : (p q : HighProcess) (f : Frame) → row_of p ≡ row_of q → IsData (row_of p).id f → IsData (row_of q).id f
-data_at p q f e d = subst (λ (r : SessionRow). IsData r.id f) e d
 
 -- how many messages were removed after one round more
 pub counts_more : (r : Round) (rounds : List Round) (removed now : ℕ) (has_removed : Bool) → removed ≡ removals rounds → has_removed ≡ removes r.made → now ≡ removed + (if has_removed then 1 else 0) → now ≡ removals (r ∷ rounds)

@@ -1,9 +1,7 @@
 -- What a high worker does on one connection.
 use Rattle.std.specs.Prelude.{◌≡◌, ℕ, ◌<◌, ◌≤◌, Bool, true, false, List, [], ◌∷◌, length, Option, Some, None}
 use Rattle.pump_frame.specs.declared.frame.Frame.{Frame}
-use Rattle.pump_frame.specs.declared.frame.Kind.TheVariants.{Data}
 use Rattle.pump_frame.specs.Counts.{Rose}
-use Rattle.pump_frame.specs.Frames.{IsLawful}
 use Rattle.pump_frame.specs.Readings.{Reading, Within, HasBegun}
 use Rattle.high_process.specs.declared.process.HighProcess.{HighProcess}
 use Rattle.high_process.specs.States.{row_of, is_down}
@@ -17,17 +15,10 @@ use Rattle.relay_threads.specs.Hearings.{IsHearing, Leaves, heard_as, held_in}
 use Rattle.relay_threads.specs.HighRounds.{Made, Round, cause, frame_heard, IsLook, MakesLook, past_after, plan_of}
 use Rattle.relay_threads.specs.HighRounds.{served, GoOn, AreRounds, newest_cause}
 
--- a DATA of the session
-pub record IsData (session : ℕ) (f : Frame) : Type 0 where
-  pub kind : f.kind ≡ Data
-  pub is_session : f.session ≡ session
-  pub lawful : IsLawful f
-
 -- a connection that is read on
-pub record IsOpen (session : ℕ) (c : HighConnection) : Type 0 where
+pub record IsOpen (c : HighConnection) : Type 0 where
   pub within : c.reader ≡ Within (held_in c.reader)
   pub begun : HasBegun c.reader
-  pub message : IsData session c.message
 
 -- a look with this frame or none leads from p to q
 pub record LookMade (p q : HighProcess) (m : ℕ) (frame : Option Frame) (x : Made) : Type 0 where

@@ -1,5 +1,5 @@
 // One round of the high worker on a connection.
-ghost use Rattle.std.specs.Prelude.{◌≡◌, ◌^◌, ◌<◌, ◌≤◌, ◌||◌, Bool, true, false, [], ◌∷◌, None, Some, IfSome};
+ghost use Rattle.std.specs.Prelude.{◌≡◌, ◌^◌, ◌≤◌, ◌||◌, Bool, true, false, [], ◌∷◌, None, Some};
 ghost use Rattle.std.specs.Prelude.{if◌then◌else◌};
 ghost use Rattle.pump_frame.specs.Counts.{Rose};
 ghost use Rattle.pump_frame.specs.declared.frame.Frame.{Frame as SentFrame};
@@ -9,7 +9,7 @@ ghost use Rattle.pump_link.specs.Tells.{Draws};
 ghost use Rattle.stable_buffer.specs.High.{high_disk};
 ghost use Rattle.high_process.specs.Tasks.{frame_of};
 ghost use Rattle.high_process.specs.Ready.{Ready};
-ghost use Rattle.high_process.specs.States.{row_of, removed_of, hand_of, last_of, is_down};
+ghost use Rattle.high_process.specs.States.{row_of, hand_of, last_of, is_down};
 ghost use Rattle.relay_threads.specs.declared.high_served.HighWhy.TheVariants.{LinkFailed};
 ghost use Rattle.relay_threads.specs.Heards.{heard_with};
 ghost use Rattle.relay_threads.specs.Hearings.{held_in, heard_as};
@@ -17,7 +17,7 @@ ghost use Rattle.relay_threads.specs.Workers.{SendsPrefix};
 ghost use Rattle.relay_threads.specs.HighRounds.{Made, Round, plan_of, frame_heard, is_frame, why_of, removes};
 ghost use Rattle.relay_threads.specs.HighRounds.{removes_by, looks_in_round, data_in, data_made, cause, cause_look};
 ghost use Rattle.relay_threads.specs.HighEnds.{LookTakes};
-ghost use Rattle.relay_threads.specs.HighServes.{IsData, IsOpen, LookMade, RoundMade, device_in, CountsFaultIn};
+ghost use Rattle.relay_threads.specs.HighServes.{IsOpen, LookMade, RoundMade, device_in, CountsFaultIn};
 
 use crate::hear::{HeardHead, hear};
 use crate::high_served::HighWhy;
@@ -25,7 +25,7 @@ use arrayvec::ArrayVec;
 use disk_model::Disk;
 use high_process::{HighFault, HighLook, HighProcess};
 use passage::WaitHighEnd;
-use pump_frame::{Frame, Kind, Payload, Reader, encode};
+use pump_frame::{Frame, Kind, Reader, encode_parts};
 use pump_link::{Clock, Link};
 use stable_buffer::HighStore;
 use std::sync::Wait;
@@ -58,8 +58,6 @@ pub struct HighConnection {
     room: Frame,
     // The first frame came, and was an ATTACH.
     is_attached: bool,
-    // The DATA that is sent. Only its number and its payload change.
-    message: Frame,
 }
 
 // What follows a reading: the first frame of a connection is to be an ATTACH, and no look is made
@@ -121,32 +119,12 @@ fn why_sent(is_sent: bool) -> Option<HighWhy>
     }
 }
 
-// The DATA of message 0, without a payload.
-fn first_data(session: u32) -> Frame
-    ensures { IsData session result }
-{
-    Frame {
-        kind: Kind::Data,
-        session,
-        number: 0,
-        payload: Payload::default(),
-    }
-}
-
-// Sends the message in the hand, where the look sends it, in this frame. False where the send
+// Sends the message in the hand, where the look sends it, from where it lies. False where the send
 // failed.
-fn send_hand<C: Link>(
-    link: &mut C,
-    process: &HighProcess,
-    look: &HighLook,
-    message: &mut Frame,
-) -> bool
-    requires message { IsData (row_of process.now).id message.old }
-    requires number { IfSome look.now.sent (λ n. n ≡ removed_of process.now) }
+fn send_hand<C: Link>(link: &mut C, process: &HighProcess, look: &HighLook) -> bool
     ensures sent { SendsPrefix (C.sent link.old) (C.sent link.new) result
         (spellings (data_in (row_of process.now).id look.now (hand_of process.now))) }
     ensures gives { Draws (C.gives link.old) (C.gives link.new) [] }
-    ensures message { IsData (row_of process.now).id message.new }
     ensures later { C.faults link.old ≤ C.faults link.new }
     ensures failed { result ≡ false → Rose (C.faults link.old) (C.faults link.new) }
 {
@@ -156,12 +134,14 @@ fn send_hand<C: Link>(
     let Some(item) = process.hand() else {
         return true;
     };
-    message.number = number;
-    message.payload = item.payload;
-    // A payload has at most 1024 bytes.
-    let _length = message.payload.len();
     let mut bytes = ArrayVec::new();
-    encode(message, &mut bytes);
+    encode_parts(
+        Kind::Data,
+        process.session(),
+        number,
+        &item.payload,
+        &mut bytes,
+    );
     link.send(bytes.as_slice()).is_ok()
 }
 
@@ -174,12 +154,10 @@ fn look<R: Wait, C: Link, D: Disk, H: WaitHighEnd>(
     process: &mut HighProcess,
     store: &mut HighStore<D>,
     ends: &mut H,
-    message: &mut Frame,
 ) -> Turn
     requires ready { Ready D.told process.old store.old (H.stands ends.old) }
     requires order { last_of process.old ≤ moment }
     requires moment { moment ≤ 2 ^ 62 }
-    requires message { IsData (row_of process.old).id message.old }
     ensures look { (x : Made) × (is_sent : Bool)
         × LookMade process.old process.new moment (frame_of frame.entry) x
         × SendsPrefix (C.sent link.old) (C.sent link.new) is_sent
@@ -187,7 +165,6 @@ fn look<R: Wait, C: Link, D: Disk, H: WaitHighEnd>(
         × (result.why ≡ cause_look x.result is_sent) × (result.has_removed ≡ removes_by x.result)
         × LookTakes H.stands ends.old ends.new process.old process.new moment (Some x) }
     ensures gives { Draws (C.gives link.old) (C.gives link.new) [] }
-    ensures message { IsData (row_of process.old).id message.new }
     ensures ready { is_down process.new ≡ false → Ready D.told process.new store.new (H.stands ends.new) }
     ensures up { device_in result.why ≡ false → is_down process.new ≡ false }
     ensures order { last_of process.new ≤ moment }
@@ -201,7 +178,7 @@ fn look<R: Wait, C: Link, D: Disk, H: WaitHighEnd>(
 {
     match process.look_waiting(rt, moment, frame, store, ends) {
         Ok(look) => {
-            let is_sent = send_hand(link, process, &look, message);
+            let is_sent = send_hand(link, process, &look);
             Turn {
                 why: why_sent(is_sent),
                 has_removed: look.removed.is_some(),
@@ -215,9 +192,9 @@ fn look<R: Wait, C: Link, D: Disk, H: WaitHighEnd>(
 }
 
 impl HighConnection {
-    /// A connection of the session of which nothing was read yet.
-    pub fn new(session: u32) -> HighConnection
-        ensures open { IsOpen session result }
+    /// A connection of which nothing was read yet.
+    pub fn new() -> HighConnection
+        ensures open { IsOpen result }
         ensures reader { result.reader ≡ Within [] }
         ensures attached { result.is_attached ≡ false }
     {
@@ -225,7 +202,6 @@ impl HighConnection {
             reader: Reader::new(),
             room: Frame::room(),
             is_attached: false,
-            message: first_data(session),
         }
     }
 
@@ -240,7 +216,7 @@ impl HighConnection {
         store: &mut HighStore<D>,
         ends: &mut H,
     ) -> Turn
-        requires open { IsOpen (row_of process.old).id self.old }
+        requires open { IsOpen self.old }
         requires ready { Ready D.told process.old store.old (H.stands ends.old) }
         requires order { last_of process.old ≤ K.floor clock.old }
         ensures round { (r : Round)
@@ -253,7 +229,6 @@ impl HighConnection {
             × (self.new.is_attached ≡ (self.old.is_attached || is_frame (heard_as r.heard.ending)))
             × LookTakes H.stands ends.old ends.new process.old process.new r.moment r.made }
         ensures begun { HasBegun self.new.reader }
-        ensures message { IsData (row_of process.old).id self.new.message }
         ensures ready { is_down process.new ≡ false → Ready D.told process.new store.new (H.stands ends.new) }
         ensures up { device_in result.why ≡ false → is_down process.new ≡ false }
         ensures order { last_of process.new ≤ K.floor clock.new }
@@ -286,7 +261,6 @@ impl HighConnection {
                 process,
                 store,
                 ends,
-                &mut self.message,
             ),
         }
     }

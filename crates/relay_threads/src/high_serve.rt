@@ -74,7 +74,7 @@ pub fn serve_high<R: Wait, C: Link, K: Clock, D: Disk, H: WaitHighEnd, G: Gate>(
     ensures stopped { result.why ≡ Stopped → Rose (G.stops gate.old) (G.stops gate.new) }
     ensures went { (result.why ≡ Stopped → ⊥) → G.stops gate.new ≡ G.stops gate.old }
 {
-    let mut connection = HighConnection::new(process.session());
+    let mut connection = HighConnection::new();
     let mut rounds = 0;
     let mut removed = 0;
     while rounds < looks {

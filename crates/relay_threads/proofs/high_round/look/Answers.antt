@@ -1,4 +1,4 @@
-use Rattle.std.proofs.Common.{rules, [], refl, ap, subst, le_refl, arith, true}
+use Rattle.std.proofs.Common.{rules, [], refl, ap, le_refl, arith, true}
 use Rattle.high_process.specs.Tasks.{frame_of}
 use Rattle.high_process.specs.Ends.{StandsFitting}
 use Rattle.high_process.proofs.Fitting.{looked_some}
@@ -6,7 +6,6 @@ use Rattle.pump_link.proofs.Grown.{Draws-nil, Grows-nil}
 use Rattle.relay_threads.proofs.HighEnding.{look_takes, fault_takes}
 use Rattle.relay_threads.proofs.HighTurning.{look_ok, look_err, made_ok, made_err, same_err, ready_again, look_counts, err_counts, err_up, err_order, err_link, calm_counts}
 use Rattle.high_process.specs.States.{task_at, attaches_at}
-use Rattle.relay_threads.specs.HighServes.{IsData}
 use Rattle.relay_threads.proofs.high_round.look.Goals as goal
 
 pub returns-in-Ok : goal.returns-in-Ok
@@ -27,7 +26,6 @@ returns-in-Ok g c = record {
         look_takes g.H.HighSide.stands c.args.ends.now c.look_waiting.new.ends (g.H.HighSide.shape c.args.ends.now) g.H.HighSide.on_one_thread p q c.args.moment frame c.in-Ok.look e.looks,
       );
   gives = c.send_hand-is_sent.ensures.gives;
-  message = subst (λ row. IsData row.id c.send_hand-is_sent.new.message) c.in-Ok.ensures.row c.send_hand-is_sent.ensures.message;
   ready =
       λ up.
       let was = c.requires.ready in
@@ -74,7 +72,6 @@ returns-in-Err g c = record {
         fault_takes g.H.HighSide.stands c.args.ends.now c.look_waiting.new.ends p q c.args.moment frame c.in-Err.fault e.refused e.fault,
       );
   gives = Draws-nil _;
-  message = c.requires.message;
   ready =
       λ up.
       let p = c.args.process.now in

@@ -1,9 +1,9 @@
 use Rattle.std.proofs.Common.{◌≤◌, [], ◌∷◌, length, Some, refl, sym, ap, ◌∙◌, subst, le_refl, le_trans}
 use Rattle.pump_frame.specs.Counts.{Rose}
 use Rattle.high_process.specs.States.{row_of}
-use Rattle.relay_threads.specs.HighServes.{IsData, device_in}
+use Rattle.relay_threads.specs.HighServes.{device_in}
 use Rattle.relay_threads.proofs.HighEnding.{takes_nothing, rounds_take}
-use Rattle.relay_threads.proofs.HighServing.{within_of, data_at, so_far_none, so_far_more, serves_more, told_none, told_more, each_more, sends_at, sent_all, asks_more, asks_ended, counts_more, counts_few, ended_by, no_stop, fault_since, stopped_no_link, looks_no_link, looks_no_stop}
+use Rattle.relay_threads.proofs.HighServing.{within_of, so_far_none, so_far_more, serves_more, told_none, told_more, each_more, sends_at, sent_all, asks_more, asks_ended, counts_more, counts_few, ended_by, no_stop, fault_since, stopped_no_link, looks_no_link, looks_no_stop}
 use Rattle.relay_threads.proofs.Counting.{none_at_most, one_more, same_more, some_left, next_at_most, none_left}
 use Rattle.relay_threads.proofs.Reaching.{rose_later}
 use Rattle.relay_threads.proofs.high_serve.serve_high.Goals as goal
@@ -15,7 +15,6 @@ loop-rounds-init g c = record {
   told = told_none _ _ _ _ _;
   takes = takes_nothing g.H.HighSide.stands c.args.ends.now c.args.process.now;
   begun = c.new-connection.ensures.open.begun;
-  message = subst (λ n. IsData n c.new-connection.result.message) c.session.ensures c.new-connection.ensures.open.message;
   removed = refl;
   few = none_at_most 0;
   ready = c.requires.ready;
@@ -34,7 +33,6 @@ round-turn-requires-clause-open g c =
     record {
       within = within_of _ _ was.so_far.is_held;
       begun = was.begun;
-      message = data_at c.args.process.now c.loop-rounds.process c.loop-rounds.connection.message (sym was.so_far.serves.row) was.message;
     }
 
 pub round-turn-requires-clause-ready : goal.round-turn-requires-clause-ready
@@ -160,7 +158,6 @@ loop-rounds-preserved g c =
       told = told;
       takes = rounds_take g.H.HighSide.stands c.args.ends.now c.loop-rounds.ends c.round-turn.new.ends c.args.process.now c.loop-rounds.process c.round-turn.new.process r rs f.serves.row (f.serves.past was.ready.up) was.takes t.8;
       begun = c.round-turn.ensures.begun;
-      message = data_at c.loop-rounds.process c.args.process.now c.round-turn.new.self.message f.serves.row c.round-turn.ensures.message;
       removed = counts_more r rs _ _ _ was.removed t.6 c.counted-removed.ensures;
       few = counts_few _ _ _ _ c.counted-removed.ensures was.few;
       ready = c.round-turn.ensures.ready (c.round-turn.ensures.up (ap device_in c.in_default.is));

@@ -5,7 +5,6 @@ use Rattle.high_process.specs.Ready.{Ready}
 use Rattle.high_process.specs.States.{row_of, last_of}
 use Rattle.relay_threads.specs.HighRounds.{Round, removals}
 use Rattle.relay_threads.specs.HighEnds.{TakesSo}
-use Rattle.relay_threads.specs.HighServes.{IsData}
 use Rattle.relay_threads.proofs.HighServing.{Told, SoFar}
 use Rattle.relay_threads.proofs.high_serve.serve_high.Given as goal
 
@@ -16,7 +15,6 @@ invariant-loop-rounds g l = record {
   told : Told (g.C.Link.gives l.fn.link) (g.C.Link.gives l.link) (g.C.Link.sent l.fn.link) (g.C.Link.sent l.link) (g.K.Clock.reads l.fn.clock) (g.K.Clock.reads l.clock) (g.G.Gate.asked l.fn.gate) (g.G.Gate.asked l.gate) (row_of l.fn.process).id rounds;
   takes : TakesSo g.H.HighSide.stands l.fn.ends l.ends l.fn.process l.process rounds;
   begun : HasBegun l.connection.reader;
-  message : IsData (row_of l.fn.process).id l.connection.message;
   removed : l.removed ≡ removals rounds;
   few : l.removed ≤ l.rounds;
   ready : Ready g.D.Disk.told l.process l.store (g.H.HighSide.stands l.ends);

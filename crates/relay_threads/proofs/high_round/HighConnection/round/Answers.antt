@@ -26,7 +26,6 @@ returns-in-End g c = record {
         takes_nothing g.H.HighSide.stands c.args.ends.now c.args.process.now,
       );
   begun = c.hear-heard.ensures.begun;
-  message = c.requires.open.message;
   ready = λ _. c.requires.ready;
   up = λ _. c.requires.ready.up;
   order = le_trans c.requires.order (le_trans c.moment-moment.ensures.from c.moment-moment.ensures.to);
@@ -56,7 +55,6 @@ returns-in-Pass g c = record {
         takes_nothing g.H.HighSide.stands c.args.ends.now c.args.process.now,
       );
   begun = c.hear-heard.ensures.begun;
-  message = c.requires.open.message;
   ready = λ _. c.requires.ready;
   up = λ _. c.requires.ready.up;
   order = le_trans c.requires.order (le_trans c.moment-moment.ensures.from c.moment-moment.ensures.to);
@@ -87,7 +85,6 @@ returns-in-Look g c = record {
         l.6,
       );
   begun = c.hear-heard.ensures.begun;
-  message = c.look.ensures.message;
   ready = c.look.ensures.ready;
   up = c.look.ensures.up;
   order = le_trans c.look.ensures.order c.moment-moment.ensures.to;

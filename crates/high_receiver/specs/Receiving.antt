@@ -3,7 +3,7 @@ use Rattle.std.specs.Prelude.{◌≡◌, ◌⊎◌, ℕ, ◌+◌, ◌^◌, ◌�
 use Rattle.std.specs.Prelude.{sum_by, Option, None, Some, Result, Ok, Err, IsOk, OnOk, OnErr, IfErr}
 use Rattle.pump_frame.specs.Rows.{IsLawfulRow}
 use Rattle.pump_frame.specs.declared.row.SessionRow.{SessionRow}
-use Rattle.disk_model.specs.Disk.{Meaning, Moves, Settled, Leaves, Answers}
+use Rattle.disk_model.specs.Disk.{Meaning, Moves, Same, Settled, Leaves, Answers}
 use Rattle.stable_buffer.specs.Register.{IsReady}
 use Rattle.stable_buffer.specs.Log.{RecvStands}
 use Rattle.high_receiver.specs.Steps.{MayTake, TakesMessage, StandsOrTakes}
@@ -67,6 +67,14 @@ pub record IsRecordAt {D : Type 0} (m : Meaning D) (receiver : Receiver D) (n at
   pub place : m.tells → (messages : List (List ℕ)) → RecvStands receiver.row messages (m.reading receiver.register.disk)
       → at ≡ record_at messages n
 
+-- what reading leaves of a receiver: its count, its end, its row, its size and its bytes
+pub record KeepsLog {D : Type 0} (m : Meaning D) (old new : Receiver D) : Type 0 where
+  pub count : recv_count new ≡ recv_count old
+  pub end : recv_end new ≡ recv_end old
+  pub row : recv_row new ≡ recv_row old
+  pub size : recv_size new ≡ recv_size old
+  pub moves : Moves m Same (recv_disk old) (recv_disk new)
+
 -- A payload is as it was, or after a good call holds no more than a message may.
 abbrev pub MayFill : {T E : Type 0} → ℕ → List ℕ → List ℕ → Result T E → Type 0
 MayFill most old new result = (new ≡ old) ⊎ (IsOk result × (length new ≤ most))
@@ -86,6 +94,14 @@ is_device (Ok taken) = false
 is_device (Err (Device faults)) = true
 is_device (Err (Ahead number count)) = false
 is_device (Err (LogFull end length size)) = false
+
+-- the message stands behind the others, and the register has turned to it
+pub record HasWritten {D : Type 0} (m : Meaning D) (message : List ℕ) (old new : Receiver D) : Type 0 where
+  pub ready : IsReady m new.register
+  pub settled : Settled m (recv_disk new)
+  pub count : recv_count new ≡ recv_count old + 1
+  pub end : recv_end new ≡ recv_end old + 2 + length message
+  pub taken : m.tells → TakesMessage (recv_row old) message (m.reading (recv_disk old)) (m.reading (recv_disk new))
 
 -- A message is stored, or its device fails. A crash at any moment leaves the messages from before, with this one or
 -- without.

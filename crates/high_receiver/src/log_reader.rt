@@ -6,7 +6,7 @@ ghost use Rattle.pump_frame.specs.Counts.{Rose};
 ghost use Rattle.stable_buffer.specs.Log.{RecvStands};
 ghost use Rattle.stable_buffer.specs.Numbers.{length_at};
 ghost use Rattle.high_receiver.specs.Receiving.{IsRecvReady, recv_count, recv_disk, recv_end, recv_is_open, recv_row};
-ghost use Rattle.high_receiver.specs.Receiving.{recv_size};
+ghost use Rattle.high_receiver.specs.Receiving.{recv_size, KeepsLog};
 ghost use Rattle.high_receiver.specs.LogReading.{IsInBlock, IsReading, IsNew, HasFilled, HasStepped, given_count};
 ghost use Rattle.high_receiver.specs.LogReading.{given_message};
 
@@ -85,11 +85,7 @@ impl LogReader {
         ensures reading { OnOk result (IsReading D.told receiver.new self.new) }
         ensures filled { OnOk result (HasFilled receiver.old self.old self.new) }
         ensures ready { OnOk result (IsRecvReady D.told receiver.new) }
-        ensures count { recv_count receiver.new ≡ recv_count receiver.old }
-        ensures end { recv_end receiver.new ≡ recv_end receiver.old }
-        ensures row { recv_row receiver.new ≡ recv_row receiver.old }
-        ensures size { recv_size receiver.new ≡ recv_size receiver.old }
-        ensures moves { Moves D.told Same (recv_disk receiver.old) (recv_disk receiver.new) }
+        ensures keeps { KeepsLog D.told receiver.old receiver.new }
 
         ensures closed { OnErr result (recv_is_open receiver.new ≡ false) }
         ensures answers { Answers D.told ⊤ (recv_disk receiver.old) (recv_disk receiver.new) result }

@@ -1,11 +1,10 @@
 // How the records of a receiver's disk are read.
 ghost use Rattle.std.specs.Prelude.{◌≡◌, ◌≤◌, ◌+◌, ℕ, List, [], ◌∷◌, false, length, drop, slice_index_or, IfOk, OnOk};
 ghost use Rattle.std.specs.Prelude.{OnErr, IfErr};
-ghost use Rattle.pump_frame.specs.Counts.{Rose};
 ghost use Rattle.disk_model.specs.Disk.{Moves, Same, Answers};
 ghost use Rattle.stable_buffer.specs.Register.{IsReady, register_disk, register_value};
 ghost use Rattle.high_receiver.specs.Receiving.{MayFill};
-ghost use Rattle.high_receiver.specs.Records.{RecordsFrom, HasSome, HasMore};
+ghost use Rattle.high_receiver.specs.Records.{RecordsFrom, HasSome, HasMore, Walks};
 
 use disk_model::Disk;
 use pump_frame::Payload;
@@ -25,21 +24,12 @@ fn place<D: Disk>(register: &mut Register<D>, n: u64) -> Result<u64, Device>
         (D.told.reading (register_disk register.old))) }
     ensures moves { Moves D.told Same (register_disk register.old) (register_disk register.new) }
 
-    ensures counts { D.told.count (register_disk register.old)
-        ≤ D.told.count (register_disk register.new) }
-    ensures rose { OnErr result (Rose (D.told.count (register_disk register.old))
-        (D.told.count (register_disk register.new))) }
+    ensures walks { Walks D.told (register_disk register.old) (register_disk register.new) result }
     ensures never { OnErr result (D.told.tells_plan
         → D.told.armed (register_disk register.old) ≡ false
         → (most : ℕ) (messages : List (List ℕ))
         → HasSome most messages n (register_value register.old).1
         (D.told.reading (register_disk register.old)) → ⊥) }
-    ensures room { D.told.tells_plan → D.told.room (register_disk register.new)
-        ≡ D.told.room (register_disk register.old) }
-    ensures armed { OnOk result (D.told.tells_plan → D.told.armed (register_disk register.new)
-        ≡ D.told.armed (register_disk register.old)) }
-    ensures disarmed { OnErr result (D.told.tells_plan
-        → D.told.armed (register_disk register.new) ≡ false) }
     ensures device { IfErr result (λ e. e.faults ≡ D.told.count (register_disk register.new)) }
 {
     let end = register.value().1;

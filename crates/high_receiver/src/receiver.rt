@@ -25,7 +25,7 @@ impl<D: Disk> Receiver<D> {
     ghost use Rattle.stable_buffer.specs.Register.{IsReady, register_disk, register_value};
     ghost use Rattle.high_receiver.specs.Steps.{MayTake, TakesMessage, StandsOrTakes};
     ghost use Rattle.high_receiver.specs.LogReading.{IsReading, given_count};
-    ghost use Rattle.high_receiver.specs.Receiving.{IsRecordAt, IsRecvReady, MayFill, StandsForSome, Stores};
+    ghost use Rattle.high_receiver.specs.Receiving.{HasWritten, IsRecordAt, IsRecvReady, KeepsLog, MayFill, StandsForSome, Stores};
     ghost use Rattle.high_receiver.specs.Receiving.{answer_at_once, is_device, recv_disk, recv_count, recv_end};
     ghost use Rattle.high_receiver.specs.Receiving.{recv_row, recv_size, recv_made_coarse, recv_is_open};
 
@@ -131,11 +131,7 @@ impl<D: Disk> Receiver<D> {
         requires below { recv_count self.old < 2 ^ 48 }
         requires room { recv_end self.old + 2 + length payload.now ≤ recv_size self.old }
 
-        ensures ready { OnOk result (IsReady D.told self.new.register) }
-        ensures settled { OnOk result (Settled D.told (recv_disk self.new)) }
-        ensures count { OnOk result (recv_count self.new ≡ recv_count self.old + 1) }
-        ensures end { OnOk result (recv_end self.new
-            ≡ recv_end self.old + 2 + length payload.now) }
+        ensures written { OnOk result (HasWritten D.told payload.now self.old self.new) }
         ensures row { recv_row self.new ≡ recv_row self.old }
         ensures size { recv_size self.new ≡ recv_size self.old }
         ensures open { recv_is_open self.new ≡ recv_is_open self.old }
@@ -146,8 +142,6 @@ impl<D: Disk> Receiver<D> {
             → RecvStands (recv_row self.old) messages (D.told.reading (recv_disk self.old))
             → Leaves D.told (recv_disk self.old) (recv_disk self.new)
             (StandsOrTakes (recv_row self.old) messages payload.now) }
-        ensures taken { OnOk result (D.told.tells → TakesMessage (recv_row self.old) payload.now
-            (D.told.reading (recv_disk self.old)) (D.told.reading (recv_disk self.new))) }
 
         ensures answers { Answers D.told
             (recv_end self.old + 2 + length payload.now ≤ D.told.room (recv_disk self.old))
@@ -220,11 +214,7 @@ impl<D: Disk> Receiver<D> {
             → into.new ≡ slice_index_or messages n []) }
         ensures fills { MayFill (recv_row self.old).message into.old into.new result }
         ensures ready { OnOk result (IsRecvReady D.told self.new) }
-        ensures count { recv_count self.new ≡ recv_count self.old }
-        ensures end { recv_end self.new ≡ recv_end self.old }
-        ensures row { recv_row self.new ≡ recv_row self.old }
-        ensures size { recv_size self.new ≡ recv_size self.old }
-        ensures moves { Moves D.told Same (recv_disk self.old) (recv_disk self.new) }
+        ensures keeps { KeepsLog D.told self.old self.new }
 
         ensures closed { OnErr result (recv_is_open self.new ≡ false) }
         ensures answers { Answers D.told ⊤ (recv_disk self.old) (recv_disk self.new) result }
@@ -290,11 +280,7 @@ impl<D: Disk> Receiver<D> {
             ≡ take (length into.old) (drop at (D.told.reading (recv_disk self.old)))) }
         ensures length { length into.new ≡ length into.old }
         ensures ready { OnOk result (IsRecvReady D.told self.new) }
-        ensures count { recv_count self.new ≡ recv_count self.old }
-        ensures end { recv_end self.new ≡ recv_end self.old }
-        ensures row { recv_row self.new ≡ recv_row self.old }
-        ensures size { recv_size self.new ≡ recv_size self.old }
-        ensures moves { Moves D.told Same (recv_disk self.old) (recv_disk self.new) }
+        ensures keeps { KeepsLog D.told self.old self.new }
 
         ensures closed { OnErr result (recv_is_open self.new ≡ false) }
         ensures answers { Answers D.told ⊤ (recv_disk self.old) (recv_disk self.new) result }

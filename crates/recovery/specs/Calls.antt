@@ -1,8 +1,8 @@
 -- When an opening says that a disk failed.
-use Rattle.std.specs.Prelude.{◌≡◌, ◌⊎◌, ◌≤◌, ◌&&◌, ℕ, Bool, true, false, not, Result, Ok, Err, None}
+use Rattle.std.specs.Prelude.{◌≡◌, ◌⊎◌, ◌≤◌, ◌&&◌, ℕ, Bool, true, false, not, Result, Ok, Err, Option, Some, None}
 use Rattle.pump_frame.specs.Counts.{Rose}
 use Rattle.pump_frame.specs.declared.row.SessionRow.{SessionRow}
-use Rattle.disk_model.specs.Disk.{Meaning}
+use Rattle.disk_model.specs.Disk.{Meaning, Moves, Same}
 use Rattle.disk_model.specs.declared.name.Role.{Role}
 use Rattle.disk_model.specs.declared.name.Role.TheVariants.{Low, High, Recv}
 use Rattle.stable_buffer.specs.Numbers.{length_at}
@@ -74,6 +74,14 @@ pub record Calls {D : Type 0} (m : Meaning D) (old new : D) (failed : Bool) : Ty
   pub always : m.tells_plan → m.armed old ≡ true → failed ≡ true
   pub room : m.tells_plan → m.room new ≡ m.room old
   pub disarmed : m.tells_plan → m.armed new ≡ false
+
+-- An opening that is refused gives the disk back: unwritten, with the first cause in the order, or with a failed call
+-- of it and the count of those as it is then.
+pub record GivesBack {D : Type 0} (m : Meaning D) (first : Option Why) (old : D) (back : D × Why) : Type 0 where
+  pub exact : is_device back.1 ≡ false → m.tells → first ≡ Some back.1
+  pub device : is_device back.1 ≡ true → back.1 ≡ Device (m.count back.0)
+  pub calls : Calls m old back.0 (is_device back.1)
+  pub same : Moves m Same old back.0
 
 -- by the plan low's disk alone lets an opening go on to high's
 abbrev pub LetsGoOn : {D : Type 0} → Meaning D → SessionRow → D → Type 0

@@ -4,6 +4,7 @@ pub mod Comparisons
 pub mod Deals
 pub mod Faults
 pub mod Fillings
+pub mod Hands
 pub mod Images
 pub mod Joint
 pub mod Moves

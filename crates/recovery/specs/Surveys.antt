@@ -1,22 +1,37 @@
 -- What a survey of the disks that are to be moved gives. Only clauses of private functions name these.
-use Rattle.std.specs.Prelude.{◌≡◌, ℕ, ◌+◌, ◌^◌, ◌≤◌, List, length}
+use Rattle.std.specs.Prelude.{◌≡◌, ℕ, ◌+◌, ◌^◌, ◌≤◌, false, List, length}
 use Rattle.pump_frame.specs.declared.row.SessionRow.{SessionRow}
 use Rattle.disk_model.specs.Disk.{Meaning}
 use Rattle.stable_buffer.specs.Register.{value_of}
-use Rattle.stable_buffer.specs.Low.{low_count, low_row, low_disk}
+use Rattle.stable_buffer.specs.Low.{IsLowReady, low_count, low_row, low_disk}
+use Rattle.stable_buffer.specs.High.{high_count, high_disk}
+use Rattle.stable_buffer.specs.Stands.{LowStands, HighStands}
 use Rattle.stable_buffer.specs.Log.{RecvStands}
 use Rattle.stable_buffer.specs.declared.low.LowStore.{LowStore}
 use Rattle.high_receiver.specs.Receiving.{recv_disk, recv_row, recv_count, recv_end}
 use Rattle.high_receiver.specs.declared.receiver.Receiver.{Receiver}
 use Rattle.recovery.specs.Agreement.{SlotsAgree}
 use Rattle.recovery.specs.Deals.{InSlots}
-use Rattle.recovery.specs.Moves.{AreFound}
+use Rattle.recovery.specs.Moves.{AreFound, IsKept}
+use Rattle.recovery.specs.declared.pump.Pair.{Pair}
 use Rattle.recovery.specs.declared.survey.Counts.{Counts}
 use Rattle.recovery.specs.declared.trio.Trio.{Trio}
 
 -- messages from number b to before E stand in their slots
 abbrev pub SlotsTell : SessionRow → ℕ → ℕ → List ℕ → Type 0
 SlotsTell row b E disk = (messages : List (List ℕ)) × (b + length messages ≡ E) × InSlots row b messages disk
+
+-- two stores whose messages were read, over the two disks as they were
+pub record AreRead {D : Type 0} (m : Meaning D) (session : SessionRow) (low high : D) (pair : Pair D) : Type 0 where
+  pub ready : IsLowReady m pair.low
+  pub row : low_row pair.low ≡ session
+  pub between : (high_count pair.high ≤ low_count pair.low)
+      × (low_count pair.low ≤ high_count pair.high + session.capacity)
+  pub low_stands : m.tells → (live : List (List ℕ))
+      × LowStands session (low_count pair.low) (high_count pair.high) live (m.reading low)
+  pub high_stands : m.tells → HighStands session (high_count pair.high) (m.reading high)
+  pub low_kept : IsKept m low (low_disk pair.low) false
+  pub high_kept : IsKept m high (high_disk pair.high) false
 
 -- the counts of two stores whose disks agree
 pub record FitsSurvey {D : Type 0} (m : Meaning D) (removed : ℕ) (low : LowStore D) (receiver : Receiver D)

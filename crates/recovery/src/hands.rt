@@ -1,15 +1,14 @@
 // The messages of an opened pump, dealt out to the hands and the passage.
-ghost use Rattle.std.specs.Prelude.{◌≡◌, ◌+◌, ◌-◌, ◌<◌, ◌≤◌, ℕ, true, false, [], Some, None, List, length, IfOk, OnOk};
+ghost use Rattle.std.specs.Prelude.{◌≡◌, ◌+◌, ◌-◌, ◌<◌, ◌≤◌, ℕ, false, [], Some, None, List, length, IfOk, OnOk};
 ghost use Rattle.std.specs.Prelude.{IfErr};
 ghost use Rattle.std.specs.List.{All};
-ghost use Rattle.disk_model.specs.Disk.{Moves, Same};
 ghost use Rattle.stable_buffer.specs.Stands.{InSlot};
 ghost use Rattle.stable_buffer.specs.Low.{IsLowReady, low_disk, low_row, low_count};
 ghost use Rattle.pump_core.specs.Passage.{Low, High};
 ghost use Rattle.recovery.specs.Refusals.{bad_slot};
-ghost use Rattle.recovery.specs.Calls.{Calls, failed, is_device};
+ghost use Rattle.recovery.specs.Calls.{is_device};
+ghost use Rattle.recovery.specs.Hands.{ReadsLow};
 ghost use Rattle.recovery.specs.Deals.{numbered, Fills, InSlots, IsDealt};
-ghost use Rattle.recovery.specs.declared.why.Why.TheVariants.{Device};
 
 use crate::Why;
 use crate::pass::Offers;
@@ -40,13 +39,7 @@ pub fn read_live<D: Disk>(low: &mut LowStore<D>, n: u64, row: &SessionRow) -> Re
         ≡ bad_slot row.now (D.told.reading (low_disk low.old)) (n + 1) (k - 1)) }
     ensures exact { IfErr result (λ why. is_device why ≡ false → D.told.tells → (k : ℕ) → 0 < k
         → bad_slot row.now (D.told.reading (low_disk low.old)) n k ≡ Some why) }
-    ensures device { IfErr result (λ why. is_device why ≡ true
-        → why ≡ Device (D.told.count (low_disk low.new))) }
-    ensures calls { Calls D.told (low_disk low.old) (low_disk low.new) (failed result) }
-    ensures ready { OnOk result (IsLowReady D.told low.new) }
-    ensures count { low_count low.new ≡ low_count low.old }
-    ensures row { low_row low.new ≡ low_row low.old }
-    ensures moves { Moves D.told Same (low_disk low.old) (low_disk low.new) }
+    ensures reads { ReadsLow D.told low.old low.new result }
 {
     let mut payload = Payload::default();
     match low.slot(n, &mut payload) {
@@ -88,13 +81,7 @@ fn fill<D: Disk, L: LowSide, O: Offers<L>>(
         ≡ bad_slot row.now (D.told.reading (low_disk low.old)) to (from + k - to)) }
     ensures exact { IfErr result (λ why. is_device why ≡ false → D.told.tells → (k : ℕ) → to ≤ from + k
         → bad_slot row.now (D.told.reading (low_disk low.old)) from k ≡ Some why) }
-    ensures device { IfErr result (λ why. is_device why ≡ true
-        → why ≡ Device (D.told.count (low_disk low.new))) }
-    ensures calls { Calls D.told (low_disk low.old) (low_disk low.new) (failed result) }
-    ensures ready { OnOk result (IsLowReady D.told low.new) }
-    ensures count { low_count low.new ≡ low_count low.old }
-    ensures row { low_row low.new ≡ low_row low.old }
-    ensures moves { Moves D.told Same (low_disk low.old) (low_disk low.new) }
+    ensures reads { ReadsLow D.told low.old low.new result }
     ensures ends { (L.shape ends.new ≡ L.shape ends.old) × (L.place ends.new ≡ L.place ends.old) }
 {
     for n in from..to {
@@ -130,13 +117,7 @@ pub fn deal<D: Disk, L: LowSide, O: Offers<L>>(
         → bad_slot row.now (D.told.reading (low_disk low.old)) removed (low_count low.old - removed) ≡ None) }
     ensures exact { IfErr result (λ why. is_device why ≡ false → D.told.tells
         → bad_slot row.now (D.told.reading (low_disk low.old)) removed (low_count low.old - removed) ≡ Some why) }
-    ensures device { IfErr result (λ why. is_device why ≡ true
-        → why ≡ Device (D.told.count (low_disk low.new))) }
-    ensures calls { Calls D.told (low_disk low.old) (low_disk low.new) (failed result) }
-    ensures ready { OnOk result (IsLowReady D.told low.new) }
-    ensures count { low_count low.new ≡ low_count low.old }
-    ensures row { low_row low.new ≡ low_row low.old }
-    ensures moves { Moves D.told Same (low_disk low.old) (low_disk low.new) }
+    ensures reads { ReadsLow D.told low.old low.new result }
     ensures ends { (L.shape ends.new ≡ L.shape ends.old) × (L.place ends.new ≡ L.place ends.old) }
 {
     let next = low.accepted();

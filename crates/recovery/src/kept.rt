@@ -1,5 +1,5 @@
 // Low's disk and high's, each alone.
-ghost use Rattle.std.specs.Prelude.{◌≡◌, true, false, Some, None, [], length, take, IfOk, OnOk, IfErr};
+ghost use Rattle.std.specs.Prelude.{◌≡◌, false, None, [], length, take, IfOk, OnOk, IfErr};
 ghost use Rattle.pump_frame.specs.Rows.{IsLawfulRow};
 ghost use Rattle.disk_model.specs.Disk.{Moves, Same, Settled};
 ghost use Rattle.disk_model.specs.declared.name.Role.TheVariants.{Low, High};
@@ -9,8 +9,7 @@ ghost use Rattle.stable_buffer.specs.Register.{IsReady, register_value, register
 ghost use Rattle.stable_buffer.specs.Low.{IsLowReady, low_disk, low_row, low_count};
 ghost use Rattle.stable_buffer.specs.High.{IsHighReady, high_disk, high_count};
 ghost use Rattle.recovery.specs.Refusals.{refused_shape, refused_disk};
-ghost use Rattle.recovery.specs.Calls.{Calls, is_device};
-ghost use Rattle.recovery.specs.declared.why.Why.TheVariants.{Device};
+ghost use Rattle.recovery.specs.Calls.{Calls, GivesBack};
 
 use crate::Why;
 use crate::shape::check_shape;
@@ -37,13 +36,9 @@ pub fn open_register<D: Disk>(
         → refused_shape row.now role (D.told.reading disk) ≡ None) }
     ensures header { OnOk result (D.told.tells
         → HasHeader row.now (role_byte role) (take 32 (D.told.reading disk))) }
-    ensures exact { IfErr result (λ e. is_device e.1 ≡ false → D.told.tells
-        → refused_shape row.now role (D.told.reading disk) ≡ Some e.1) }
-    ensures device { IfErr result (λ e. is_device e.1 ≡ true → e.1 ≡ Device (D.told.count e.0)) }
+    ensures back { IfErr result (λ e. GivesBack D.told (refused_shape row.now role (D.told.reading disk)) disk e) }
     ensures calls { IfOk result (λ r. Calls D.told disk (register_disk r.0) false) }
-    ensures calls_err { IfErr result (λ e. Calls D.told disk e.0 (is_device e.1)) }
     ensures same { IfOk result (λ r. Moves D.told Same disk (register_disk r.0)) }
-    ensures same_err { IfErr result (λ e. Moves D.told Same disk e.0) }
 {
     match check_shape(&mut disk, row, role) {
         Err(why) => Err((disk, why)),
@@ -66,13 +61,9 @@ pub fn open_low<D: Disk>(disk: D, row: &SessionRow) -> Result<LowStore<D>, (D, W
         → LowStands row.now (low_count s) (low_count s) [] (D.told.reading disk)) }
     ensures fine { OnOk result (D.told.tells
         → refused_disk row.now Low (D.told.reading disk) ≡ None) }
-    ensures exact { IfErr result (λ e. is_device e.1 ≡ false → D.told.tells
-        → refused_disk row.now Low (D.told.reading disk) ≡ Some e.1) }
-    ensures device { IfErr result (λ e. is_device e.1 ≡ true → e.1 ≡ Device (D.told.count e.0)) }
+    ensures back { IfErr result (λ e. GivesBack D.told (refused_disk row.now Low (D.told.reading disk)) disk e) }
     ensures calls { IfOk result (λ s. Calls D.told disk (low_disk s) false) }
-    ensures calls_err { IfErr result (λ e. Calls D.told disk e.0 (is_device e.1)) }
     ensures same { IfOk result (λ s. Moves D.told Same disk (low_disk s)) }
-    ensures same_err { IfErr result (λ e. Moves D.told Same disk e.0) }
 {
     match open_register(disk, row, Role::Low) {
         Err(refused) => Err(refused),
@@ -95,13 +86,9 @@ pub fn open_high<D: Disk>(disk: D, row: &SessionRow) -> Result<HighStore<D>, (D,
         → HighStands row.now (high_count s) (D.told.reading disk)) }
     ensures fine { OnOk result (D.told.tells
         → refused_disk row.now High (D.told.reading disk) ≡ None) }
-    ensures exact { IfErr result (λ e. is_device e.1 ≡ false → D.told.tells
-        → refused_disk row.now High (D.told.reading disk) ≡ Some e.1) }
-    ensures device { IfErr result (λ e. is_device e.1 ≡ true → e.1 ≡ Device (D.told.count e.0)) }
+    ensures back { IfErr result (λ e. GivesBack D.told (refused_disk row.now High (D.told.reading disk)) disk e) }
     ensures calls { IfOk result (λ s. Calls D.told disk (high_disk s) false) }
-    ensures calls_err { IfErr result (λ e. Calls D.told disk e.0 (is_device e.1)) }
     ensures same { IfOk result (λ s. Moves D.told Same disk (high_disk s)) }
-    ensures same_err { IfErr result (λ e. Moves D.told Same disk e.0) }
 {
     match open_register(disk, row, Role::High) {
         Err(refused) => Err(refused),

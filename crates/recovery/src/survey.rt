@@ -11,7 +11,7 @@ ghost use Rattle.recovery.specs.Calls.{is_device, failed};
 ghost use Rattle.recovery.specs.Agreement.{Disagrees};
 ghost use Rattle.stable_buffer.specs.Log.{RecvStands};
 ghost use Rattle.recovery.specs.Moves.{AreRefused, IsKept, is_blamed, disk_of};
-ghost use Rattle.recovery.specs.Surveys.{IsSurveyed, FitsSurvey, SlotsTell};
+ghost use Rattle.recovery.specs.Surveys.{IsSurveyed, FitsSurvey, SlotsTell, AreRead};
 ghost use Rattle.recovery.specs.declared.why.Why.TheVariants.{Device};
 
 use crate::hands::read_live;
@@ -80,14 +80,7 @@ fn check_live<D: Disk>(low: &mut LowStore<D>, removed: u64, row: &SessionRow) ->
 fn open_live<D: Disk>(low: D, high: D, row: &SessionRow) -> Result<Pair<D>, NotOpened<D>>
     requires lawful { IsLawfulRow row.now }
 
-    ensures ready { IfOk result (λ p. IsLowReady D.told p.low) }
-    ensures row { IfOk result (λ p. low_row p.low ≡ row.now) }
-    ensures between { IfOk result (λ p. (high_count p.high ≤ low_count p.low)
-        × (low_count p.low ≤ high_count p.high + row.now.capacity)) }
-    ensures low_stands { IfOk result (λ p. D.told.tells → (live : List (List ℕ))
-        × LowStands row.now (low_count p.low) (high_count p.high) live (D.told.reading low)) }
-    ensures high_stands { IfOk result (λ p. D.told.tells
-        → HighStands row.now (high_count p.high) (D.told.reading high)) }
+    ensures live { IfOk result (λ p. AreRead D.told row.now low high p) }
     ensures fine { OnOk result (D.told.tells
         → refused_pump row.now (D.told.reading low) (D.told.reading high) ≡ None) }
     ensures exact { IfErr result (λ e. is_device e.why ≡ false → D.told.tells
@@ -95,8 +88,6 @@ fn open_live<D: Disk>(low: D, high: D, row: &SessionRow) -> Result<Pair<D>, NotO
     ensures device { IfErr result (λ e. is_device e.why ≡ true
         → ((e.role ≡ LowRole) × (e.why ≡ Device (D.told.count e.low)))
         ⊎ ((e.role ≡ HighRole) × (e.why ≡ Device (D.told.count e.high)))) }
-    ensures low_kept { IfOk result (λ p. IsKept D.told low (low_disk p.low) false) }
-    ensures high_kept { IfOk result (λ p. IsKept D.told high (high_disk p.high) false) }
     ensures low_back { IfErr result (λ e. IsKept D.told low e.low
         (is_blamed {T = ℕ} false LowRole (Err (record { new = false; role = e.role; why = e.why })))) }
     ensures high_back { IfErr result (λ e. IsKept D.told high e.high

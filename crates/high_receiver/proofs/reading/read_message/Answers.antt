@@ -22,16 +22,16 @@ returns-in_err-read_record-clause-answers g c =
     let a = c.in_err-read_record.ensures.answers in
     let is_err : IsErr c.from_residual-in_err-read_record.result = search (rules) in
     record {
-      counts = omega (arith, p.counts, a.counts);
-      rose = λ e. let rise = a.rose refl in omega (arith, p.counts, rise);
+      counts = omega (arith, p.walks.counts, a.counts);
+      rose = λ e. let rise = a.rose refl in omega (arith, p.walks.counts, rise);
       never = λ plan off has.
           let told = m.plan_tells plan in
           let more = has.1 in
           let from = headed most has.0 n at r.second disk more.0 (p.place told most has.0 (omega (arith, more.0), more.1)) in
           let there = stayed most (slice_index_or has.0 n [] ∷ drop (suc n) has.0) at r.second next.second disk (m.reading next.disk) end (p.moves.reads told) from in
-          absurd (failed (a.never plan (p.armed plan ∙ off) (slice_index_or has.0 n [], drop (suc n) has.0, there)));
+          absurd (failed (a.never plan (p.walks.armed plan ∙ off) (slice_index_or has.0 n [], drop (suc n) has.0, there)));
       always = λ plan on. is_err;
-      room = λ plan. a.room plan ∙ p.room plan;
+      room = λ plan. a.room plan ∙ p.walks.room plan;
       disarmed = a.disarmed;
     }
 

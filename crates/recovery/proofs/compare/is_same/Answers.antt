@@ -127,11 +127,11 @@ returns-in-Err-message g c =
       };
       receiver = record {
         ready = λ is_open. elim (false≢true (sym e.closed ∙ is_open)) [ ];
-        count = e.count;
-        end = e.end;
-        row = e.row;
-        size = e.size;
-        moves = e.moves;
+        count = e.keeps.count;
+        end = e.keeps.end;
+        row = e.keeps.row;
+        size = e.keeps.size;
+        moves = e.keeps.moves;
       };
     }
 
@@ -176,10 +176,10 @@ returns g c =
       };
       receiver = record {
         ready = λ _. e.ready;
-        count = e.count;
-        end = e.end;
-        row = e.row;
-        size = e.size;
-        moves = e.moves;
+        count = e.keeps.count;
+        end = e.keeps.end;
+        row = e.keeps.row;
+        size = e.keeps.size;
+        moves = e.keeps.moves;
       };
     }

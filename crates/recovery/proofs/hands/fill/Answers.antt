@@ -65,7 +65,7 @@ loop-n-preserved g c =
     let x = c.in_ok-item.item in
     let ms = i.messages in
     let d = m.reading c.args.low.now.register.disk in
-    let calls = c.read_live.ensures.calls in
+    let calls = c.read_live.ensures.reads.calls in
     let at : from + length ms ≡ x.number = i.length' ∙ sym c.in_ok-item.ensures.number in
     let same : numbered from ms ++ x ∷ [] ≡ numbered from (ms ++ x.payload ∷ []) =
     (λ j. numbered from ms ++ record { number = sym at j; payload = x.payload } ∷ []) ∙ sym (numbered_snoc from ms x.payload) in
@@ -88,10 +88,10 @@ loop-n-preserved g c =
           let here : bad_slot row d n j ≡ bad_slot row d (n + 1) (j - 1) = subst (λ (z : List ℕ). bad_slot row z n j ≡ bad_slot row z (n + 1) (j - 1)) (i.moves.reads told) fine in
           let e : j - 1 ≡ from + k - (n + 1) = omega (arith, le) in
           i.rest told k (omega (arith, le)) ∙ here ∙ ap (λ p. bad_slot row d (n + 1) p) e;
-      ready = c.in_ok-item.ensures.ready;
-      stored = c.read_live.ensures.count ∙ i.stored;
-      row' = c.read_live.ensures.row ∙ i.row';
-      moves = goes_on_same m Same _ _ _ i.moves c.read_live.ensures.moves;
+      ready = c.in_ok-item.ensures.reads.ready;
+      stored = c.read_live.ensures.reads.count ∙ i.stored;
+      row' = c.read_live.ensures.reads.row ∙ i.row';
+      moves = goes_on_same m Same _ _ _ i.moves c.read_live.ensures.reads.moves;
       count = omega (arith, i.count, calls.counts);
       room = λ plan. calls.room plan ∙ i.room plan;
       calm = calls.disarmed;

@@ -14,12 +14,14 @@ returns-in-Err g c =
       ready = tt;
       stands = tt;
       fine = tt;
-      exact = λ fine told. refused_alone c.args.row.now High (g.D.Disk.told.reading c.args.disk) c.in-Err.refused.1 (e.exact fine told);
-      device = e.device;
+      back = record {
+        exact = λ fine told. refused_alone c.args.row.now High (g.D.Disk.told.reading c.args.disk) c.in-Err.refused.1 (e.back.exact fine told);
+        device = e.back.device;
+        calls = e.back.calls;
+        same = e.back.same;
+      };
       calls = tt;
-      calls_err = e.calls_err;
       same = tt;
-      same_err = e.same_err;
     }
 
 pub returns-then-first-gt-GREATEST_COUNT : goal.returns-then-first-gt-GREATEST_COUNT
@@ -36,12 +38,14 @@ returns-then-first-gt-GREATEST_COUNT g c =
       ready = tt;
       stands = tt;
       fine = tt;
-      exact = λ _ told. count_alone c.args.row.now High (m.reading c.args.disk) v.0 v.1 (e.fine told) (c.value-first.ensures ∙ e.value told) apart;
-      device = λ is. elim (false≢true is) [ ];
+      back = record {
+        exact = λ _ told. count_alone c.args.row.now High (m.reading c.args.disk) v.0 v.1 (e.fine told) (c.value-first.ensures ∙ e.value told) apart;
+        device = λ is. elim (false≢true is) [ ];
+        calls = subst (λ d. Calls m c.args.disk d false) back e.calls;
+        same = subst (λ d. Moves m Same c.args.disk d) back e.same;
+      };
       calls = tt;
-      calls_err = subst (λ d. Calls m c.args.disk d false) back e.calls;
       same = tt;
-      same_err = subst (λ d. Moves m Same c.args.disk d) back e.same;
     }
 
 pub returns-else-second-ne0 : goal.returns-else-second-ne0
@@ -54,10 +58,7 @@ returns-else-second-ne0 g c =
       ready = over.ready;
       stands = search rules;
       fine = λ told. fine_alone c.args.row.now High (m.reading c.args.disk) v.0 v.1 (e.fine told) (c.value-first.ensures ∙ e.value told) c.if-first-gt-GREATEST_COUNT.false c.if-second-ne0.false;
-      exact = tt;
-      device = tt;
+      back = tt;
       calls = subst (λ d. Calls m c.args.disk d false) (sym over.disk) e.calls;
-      calls_err = tt;
       same = subst (λ d. Moves m Same c.args.disk d) (sym over.disk) e.same;
-      same_err = tt;
     }

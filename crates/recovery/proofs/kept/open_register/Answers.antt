@@ -17,12 +17,14 @@ returns-in-Err g c =
       size = tt;
       fine = tt;
       header = tt;
-      exact = e.exact;
-      device = e.device;
+      back = record {
+        exact = e.exact;
+        device = e.device;
+        calls = e.calls;
+        same = e.moves;
+      };
       calls = tt;
-      calls_err = e.calls;
       same = tt;
-      same_err = e.moves;
     }
 
 pub returns-in-Ok-open : goal.returns-in-Ok-open
@@ -39,12 +41,9 @@ returns-in-Ok-open g c =
       size = e.size;
       fine = e.fine;
       header = e.header;
-      exact = tt;
-      device = tt;
+      back = tt;
       calls = calls_on m c.args.disk mid register.disk false e.calls (calls_ok m _ mid register.disk register o.answers false refl);
-      calls_err = tt;
       same = goes_on_same m Same _ _ _ e.moves o.moves;
-      same_err = tt;
     }
 
 pub returns-in-Err-open : goal.returns-in-Err-open
@@ -61,10 +60,12 @@ returns-in-Err-open g c =
       size = tt;
       fine = tt;
       header = tt;
-      exact = λ fine. elim (false≢true (sym fine)) [ ];
-      device = λ _. ap Device c.faults-faults.ensures;
+      back = record {
+        exact = λ fine. elim (false≢true (sym fine)) [ ];
+        device = λ _. ap Device c.faults-faults.ensures;
+        calls = calls_on m c.args.disk mid disk true e.calls (calls_err m _ mid disk _ o.answers (λ plan. let told = m.plan_tells plan in omega (arith, e.whole, e.size told, ap length (e.moves.reads told))) true refl);
+        same = goes_on_same m Same _ _ _ e.moves o.moves;
+      };
       calls = tt;
-      calls_err = calls_on m c.args.disk mid disk true e.calls (calls_err m _ mid disk _ o.answers (λ plan. let told = m.plan_tells plan in omega (arith, e.whole, e.size told, ap length (e.moves.reads told))) true refl);
       same = tt;
-      same_err = goes_on_same m Same _ _ _ e.moves o.moves;
     }

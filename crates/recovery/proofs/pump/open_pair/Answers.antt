@@ -16,13 +16,13 @@ returns-in-Err g c =
     record {
       opened = tt;
       refused = record {
-        exact = λ nd told. refused_low row (m.reading c.args.low) (m.reading c.args.high) c.in-Err.why (e.exact nd told);
-        device_low = λ is _. e.device is;
+        exact = λ nd told. refused_low row (m.reading c.args.low) (m.reading c.args.high) c.in-Err.why (e.back.exact nd told);
+        device_low = λ is _. e.back.device is;
         device_high = λ _ role. elim (false≢true (ap is_high role)) [ ];
         role = inl refl;
-        calls_low = e.calls_err;
-        calls_high = inr (refl, refl, stopped m row c.args.low c.in-Err.why c.in-Err.low e.calls_err e.exact);
-        moves_low = e.same_err;
+        calls_low = e.back.calls;
+        calls_high = inr (refl, refl, stopped m row c.args.low c.in-Err.why c.in-Err.low e.back.calls e.back.exact);
+        moves_low = e.back.same;
         moves_high = started m Same (λ d. refl) c.args.high;
       };
     }
@@ -37,14 +37,14 @@ returns-in-Err-open_high g c =
     record {
       opened = tt;
       refused = record {
-        exact = λ nd told. refused_high row (m.reading c.args.low) (m.reading c.args.high) c.in-Err-open_high.why (e.fine told) (f.exact nd told);
+        exact = λ nd told. refused_high row (m.reading c.args.low) (m.reading c.args.high) c.in-Err-open_high.why (e.fine told) (f.back.exact nd told);
         device_low = λ _ role. elim (false≢true (ap is_low role)) [ ];
-        device_high = λ is _. f.device is;
+        device_high = λ is _. f.back.device is;
         role = inr refl;
         calls_low = subst (λ d. Calls m c.args.low d false) low e.calls;
-        calls_high = inl (f.calls_err, gone_on m row c.args.low c.in-Ok.low.register.disk e.calls e.fine);
+        calls_high = inl (f.back.calls, gone_on m row c.args.low c.in-Ok.low.register.disk e.calls e.fine);
         moves_low = subst (λ d. Moves m Same c.args.low d) low e.same;
-        moves_high = f.same_err;
+        moves_high = f.back.same;
       };
     }
 

@@ -49,10 +49,10 @@ returns-in-Ok-deal g c =
     let gone : r ≡ high.register.first = c.removed-removed.ensures in
     let (ms, slots, dealt) = k.dealt in
     record {
-      ready_low = k.ready;
+      ready_low = k.reads.ready;
       ready_high = e.ready_high;
-      row = k.row ∙ e.row;
-      counts = (k.count ∙ sym next, sym gone);
+      row = k.reads.row ∙ e.row;
+      counts = (k.reads.count ∙ sym next, sym gone);
       dealt = (
         ms,
         (λ told.
@@ -80,9 +80,9 @@ returns-in-Ok-deal g c =
       device_low = tt;
       device_high = tt;
       role = tt;
-      calls_low = calls_on m c.args.low low.register.disk c.deal.new.low.register.disk false e.calls_low k.calls;
+      calls_low = calls_on m c.args.low low.register.disk c.deal.new.low.register.disk false e.calls_low k.reads.calls;
       calls_high = inl (e.calls_high, e.goes_on);
-      moves_low = goes_on_same m Same _ _ _ e.same_low k.moves;
+      moves_low = goes_on_same m Same _ _ _ e.same_low k.reads.moves;
       moves_high = e.same_high;
       ends = k.ends;
     }
@@ -108,12 +108,12 @@ returns-in-Err-deal g c =
       removed = tt;
       fine = tt;
       exact = λ fine told. e.slots told (Some why) ((λ i. bad_slot row (sym (e.same_low.reads told) i) (sym gone i) (first.register.first - sym gone i)) ∙ k.exact fine told);
-      device_low = λ is _. k.device is ∙ ap (λ d. Device (m.count d)) low;
+      device_low = λ is _. k.reads.device is ∙ ap (λ d. Device (m.count d)) low;
       device_high = λ _ role. elim (false≢true (ap is_high role)) [ ];
       role = inl refl;
-      calls_low = subst (λ d. Calls m c.args.low d (is_device why)) low (calls_on m c.args.low first.register.disk c.deal.new.low.register.disk (is_device why) e.calls_low k.calls);
+      calls_low = subst (λ d. Calls m c.args.low d (is_device why)) low (calls_on m c.args.low first.register.disk c.deal.new.low.register.disk (is_device why) e.calls_low k.reads.calls);
       calls_high = inl (subst (λ d. Calls m c.args.high d false) high e.calls_high, e.goes_on);
-      moves_low = subst (λ d. Moves m Same c.args.low d) low (goes_on_same m Same _ _ _ e.same_low k.moves);
+      moves_low = subst (λ d. Moves m Same c.args.low d) low (goes_on_same m Same _ _ _ e.same_low k.reads.moves);
       moves_high = subst (λ d. Moves m Same c.args.high d) high e.same_high;
       ends = k.ends;
     }

@@ -35,12 +35,12 @@ returns-in-Err g c =
       value = tt;
       stands = tt;
       fine = tt;
-      exact = λ nd told. refused_by_shape c.args.row.now c.args.size (g.D.Disk.told.reading c.args.disk) c.in-Err.refused.1 (e.exact nd told);
-      device = e.device;
+      exact = λ nd told. refused_by_shape c.args.row.now c.args.size (g.D.Disk.told.reading c.args.disk) c.in-Err.refused.1 (e.back.exact nd told);
+      device = e.back.device;
       calls = tt;
-      calls_err = e.calls_err;
+      calls_err = e.back.calls;
       same = tt;
-      same_err = e.same_err;
+      same_err = e.back.same;
     }
 
 pub returns-in-Err-fill_log : goal.returns-in-Err-fill_log

@@ -14,16 +14,10 @@ returns-in-Err g c =
     let e = c.in-Err.ensures.refused in
     let refused = c.in-Err.refused in
     record {
-      ready = tt;
-      row = tt;
-      between = tt;
-      low_stands = tt;
-      high_stands = tt;
+      live = tt;
       fine = tt;
       exact = e.exact;
       device = λ is. told_of_one refused.role refused.why (Device (m.count refused.low)) (Device (m.count refused.high)) e.role (e.device_low is) (e.device_high is);
-      low_kept = tt;
-      high_kept = tt;
       low_back = kept_low m refused.role (is_device refused.why) c.args.low refused.low e.moves_low e.calls_low;
       high_back = kept_high m c.args.row.now c.args.low refused.role (is_device refused.why) c.args.high refused.high e.moves_high e.calls_high;
     }
@@ -38,28 +32,30 @@ returns-in-Ok-check_live g c =
     let k = c.in-Ok-check_live.ensures in
     let gone : c.removed.result ≡ high.register.first = c.removed.ensures in
     record {
-      ready = k.ready;
-      row = k.row ∙ e.row;
-      between = (omega (arith, e.between.0, k.count), omega (arith, e.between.1, k.count));
-      low_stands = λ told.
-          let s = e.low_stands told in
-          let (live, count, slots) = k.live told in (
-            live,
-            record {
-              header = s.header;
-              size = s.size;
-              value = s.value ∙ (λ i. (sym k.count i, 0));
-              kept = omega (arith, e.between.1, k.count);
-              count = omega (arith, count, k.count, gone);
-              slots = subst (λ (z : List ℕ). InSlots row high.register.first live z) (e.same_low.reads told) (subst (λ n. InSlots row n live (m.reading low.register.disk)) gone slots);
-            },
-          );
-      high_stands = e.high_stands;
+      live = record {
+        ready = k.ready;
+        row = k.row ∙ e.row;
+        between = (omega (arith, e.between.0, k.count), omega (arith, e.between.1, k.count));
+        low_stands = λ told.
+            let s = e.low_stands told in
+            let (live, count, slots) = k.live told in (
+              live,
+              record {
+                header = s.header;
+                size = s.size;
+                value = s.value ∙ (λ i. (sym k.count i, 0));
+                kept = omega (arith, e.between.1, k.count);
+                count = omega (arith, count, k.count, gone);
+                slots = subst (λ (z : List ℕ). InSlots row high.register.first live z) (e.same_low.reads told) (subst (λ n. InSlots row n live (m.reading low.register.disk)) gone slots);
+              },
+            );
+        high_stands = e.high_stands;
+        low_kept = kept_after m c.args.low low.register.disk c.check_live.new.low.register.disk false (kept m c.args.low low.register.disk false e.same_low e.calls_low) k.kept;
+        high_kept = kept m c.args.high high.register.disk false e.same_high e.calls_high;
+      };
       fine = λ told. e.slots told None ((λ i. bad_slot row (sym (e.same_low.reads told) i) (sym gone i) (low.register.first - sym gone i)) ∙ k.fine told);
       exact = tt;
       device = tt;
-      low_kept = kept_after m c.args.low low.register.disk c.check_live.new.low.register.disk false (kept m c.args.low low.register.disk false e.same_low e.calls_low) k.kept;
-      high_kept = kept m c.args.high high.register.disk false e.same_high e.calls_high;
       low_back = tt;
       high_back = tt;
     }
@@ -76,16 +72,10 @@ returns-in-Err-check_live g c =
     let gone : c.removed.result ≡ high.register.first = c.removed.ensures in
     let low_back = sym c.into_disk.ensures in
     record {
-      ready = tt;
-      row = tt;
-      between = tt;
-      low_stands = tt;
-      high_stands = tt;
+      live = tt;
       fine = tt;
       exact = λ fine told. e.slots told (Some why) ((λ i. bad_slot row (sym (e.same_low.reads told) i) (sym gone i) (low.register.first - sym gone i)) ∙ k.exact fine told);
       device = λ is. inl (refl, k.device is ∙ ap (λ d. Device (m.count d)) low_back);
-      low_kept = tt;
-      high_kept = tt;
       low_back = subst (λ d. IsKept m c.args.low d (is_device why)) low_back
           (kept_after m c.args.low low.register.disk c.check_live.new.low.register.disk (is_device why) (kept m c.args.low low.register.disk false e.same_low e.calls_low) k.kept);
       high_back = subst (λ d. IsKept m c.args.high d false) (sym c.into_disk-in-Err-check_live.ensures) (kept m c.args.high high.register.disk false e.same_high e.calls_high);

@@ -17,18 +17,18 @@ returns-clause-found g c =
     let pair = c.in-Ok.pair in
     let receiver = c.in-Ok-open_receiver.receiver in
     let o : AreOpened m c.args.row.now c.args.size pair.high.register.first pair.low receiver c.args.old = record {
-      low_stands = c.in-Ok.ensures.low_stands;
-      high_stands = c.in-Ok.ensures.high_stands;
+      low_stands = c.in-Ok.ensures.live.low_stands;
+      high_stands = c.in-Ok.ensures.live.high_stands;
       recv_stands = c.in-Ok-open_receiver.ensures.stands;
       value = c.in-Ok-open_receiver.ensures.value;
       pump = c.in-Ok.ensures.fine;
       log = c.in-Ok-open_receiver.ensures.fine;
-      low_row_is = c.in-Ok.ensures.row;
+      low_row_is = c.in-Ok.ensures.live.row;
       recv_row_is = c.in-Ok-open_receiver.ensures.row;
-      low_reads = c.in-Ok.ensures.low_kept.moves.reads;
+      low_reads = c.in-Ok.ensures.live.low_kept.moves.reads;
       recv_reads = c.in-Ok-open_receiver.ensures.same.reads;
-      count = c.in-Ok.ensures.ready.count;
-      held = c.in-Ok.ensures.between;
+      count = c.in-Ok.ensures.live.ready.count;
+      held = c.in-Ok.ensures.live.between;
       from = c.in-Ok-open_receiver.ensures.ready.from;
       room = omega (arith, c.in-Ok-open_receiver.ensures.ready.within, c.in-Ok-open_receiver.ensures.size);
     } in
@@ -41,18 +41,18 @@ returns-clause-refused g c =
     let pair = c.in-Ok.pair in
     let receiver = c.in-Ok-open_receiver.receiver in
     let o : AreOpened m c.args.row.now c.args.size pair.high.register.first pair.low receiver c.args.old = record {
-      low_stands = c.in-Ok.ensures.low_stands;
-      high_stands = c.in-Ok.ensures.high_stands;
+      low_stands = c.in-Ok.ensures.live.low_stands;
+      high_stands = c.in-Ok.ensures.live.high_stands;
       recv_stands = c.in-Ok-open_receiver.ensures.stands;
       value = c.in-Ok-open_receiver.ensures.value;
       pump = c.in-Ok.ensures.fine;
       log = c.in-Ok-open_receiver.ensures.fine;
-      low_row_is = c.in-Ok.ensures.row;
+      low_row_is = c.in-Ok.ensures.live.row;
       recv_row_is = c.in-Ok-open_receiver.ensures.row;
-      low_reads = c.in-Ok.ensures.low_kept.moves.reads;
+      low_reads = c.in-Ok.ensures.live.low_kept.moves.reads;
       recv_reads = c.in-Ok-open_receiver.ensures.same.reads;
-      count = c.in-Ok.ensures.ready.count;
-      held = c.in-Ok.ensures.between;
+      count = c.in-Ok.ensures.live.ready.count;
+      held = c.in-Ok.ensures.live.between;
       from = c.in-Ok-open_receiver.ensures.ready.from;
       room = omega (arith, c.in-Ok-open_receiver.ensures.ready.within, c.in-Ok-open_receiver.ensures.size);
     } in
@@ -64,7 +64,7 @@ pub returns-clause-low : goal.returns-clause-low
 returns-clause-low g c =
     let m = g.D.Disk.told in
     subst (λ d. IsKept m c.args.old.low d (is_blamed false Low c.compare-end.result)) (sym c.into_disk-2.ensures)
-    (kept_after m c.args.old.low c.in-Ok.pair.low.register.disk c.compare-end.new.low.register.disk (is_blamed false Low c.compare-end.result) c.in-Ok.ensures.low_kept c.compare-end.ensures.low_kept)
+    (kept_after m c.args.old.low c.in-Ok.pair.low.register.disk c.compare-end.new.low.register.disk (is_blamed false Low c.compare-end.result) c.in-Ok.ensures.live.low_kept c.compare-end.ensures.low_kept)
 
 pub returns-in-Err : goal.returns-in-Err
 returns-in-Err g c =
@@ -103,8 +103,8 @@ returns-in-Err-open_receiver g c =
       found = tt;
       refused = subst (λ (f : MoveFault). is_device f.why ≡ false → m.tells → (f.new ≡ false) × AreRefused c.args.row.now c.args.size (m.reading old.low) (m.reading old.high) (m.reading old.recv) f.role f.why) fault (λ nd told. (refl, inr (pair.fine told, refl, inl (e.exact nd told))));
       device = subst (λ (f : MoveFault). is_device f.why ≡ true → (f.new ≡ false) × (f.why ≡ Device (m.count (disk_of disks f.role)))) fault (λ is. (refl, e.device is));
-      low = subst (λ (f : MoveFault). IsKept m old.low disks.low (is_blamed {T = ℕ} false Low (Err f))) fault (subst (λ d. IsKept m old.low d false) (sym c.into_disk.ensures) pair.low_kept);
-      high = subst (λ (f : MoveFault). IsKept m old.high disks.high (is_blamed {T = ℕ} false High (Err f))) fault (subst (λ d. IsKept m old.high d false) (sym c.into_disk-in-Err-open_receiver.ensures) pair.high_kept);
+      low = subst (λ (f : MoveFault). IsKept m old.low disks.low (is_blamed {T = ℕ} false Low (Err f))) fault (subst (λ d. IsKept m old.low d false) (sym c.into_disk.ensures) pair.live.low_kept);
+      high = subst (λ (f : MoveFault). IsKept m old.high disks.high (is_blamed {T = ℕ} false High (Err f))) fault (subst (λ d. IsKept m old.high d false) (sym c.into_disk-in-Err-open_receiver.ensures) pair.live.high_kept);
       recv = subst (λ (f : MoveFault). IsKept m old.recv recv (is_blamed {T = ℕ} false Recv (Err f))) fault (kept m old.recv recv (is_device c.in-Err-open_receiver.why) e.same_err e.calls_err);
     }
 

@@ -14,7 +14,7 @@ returns-clause-message g c = λ told messages stands.
     let holds : Holds m r st.receiver s st.self = elim st.branch [
       | then-is_none+in_ok-fill w ↦ let f = w.in_ok-fill.ensures in let r' = w.fill.new.receiver in let s' = w.fill.new.self in
           subst (λ k. Holds m r st.receiver s k) (sym w.self-is) (subst (λ k. Holds m r k s s') (sym w.receiver-is)
-          (refilled m r s q.ready q.reading q.more r' s' f.ready f.reading f.filled f.count f.end f.row f.moves))
+          (refilled m r s q.ready q.reading q.more r' s' f.ready f.reading f.filled f.keeps.count f.keeps.end f.keeps.row f.keeps.moves))
       | else-is_none w ↦ subst (λ k. Holds m r st.receiver s k) (sym w.self-is) (subst (λ k. Holds m r k s s) (sym w.receiver-is)
           (held m r s q.ready q.reading q.more c.most-most.result c.next_length.result w.if-is_none.ensures c.next_length.ensures.some))
     ] in
@@ -30,7 +30,7 @@ returns-clause-reading g c =
     let holds : Holds m r st.receiver s st.self = elim st.branch [
       | then-is_none+in_ok-fill w ↦ let f = w.in_ok-fill.ensures in let r' = w.fill.new.receiver in let s' = w.fill.new.self in
           subst (λ k. Holds m r st.receiver s k) (sym w.self-is) (subst (λ k. Holds m r k s s') (sym w.receiver-is)
-          (refilled m r s q.ready q.reading q.more r' s' f.ready f.reading f.filled f.count f.end f.row f.moves))
+          (refilled m r s q.ready q.reading q.more r' s' f.ready f.reading f.filled f.keeps.count f.keeps.end f.keeps.row f.keeps.moves))
       | else-is_none w ↦ subst (λ k. Holds m r st.receiver s k) (sym w.self-is) (subst (λ k. Holds m r k s s) (sym w.receiver-is)
           (held m r s q.ready q.reading q.more c.most-most.result c.next_length.result w.if-is_none.ensures c.next_length.ensures.some))
     ] in

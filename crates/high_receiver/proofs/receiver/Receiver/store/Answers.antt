@@ -18,23 +18,23 @@ returns-in-Ok-clause-stores g c =
       took = refl;
       ready = record {
         is_open = e.open ∙ was.is_open;
-        ready = e.ready;
+        ready = e.written.ready;
         lawful = subst IsLawfulRow (sym same) was.lawful;
         short = subst (λ (w : SessionRow). w.message ≤ 1024) (sym same) was.short;
-        count = omega (arith, e.count, c.requires.below);
-        from = omega (arith, e.end, was.from);
-        within = omega (arith, e.end, e.size, c.requires.room);
-        settled = e.settled;
+        count = omega (arith, e.written.count, c.requires.below);
+        from = omega (arith, e.written.end, was.from);
+        within = omega (arith, e.written.end, e.size, c.requires.room);
+        settled = e.written.settled;
         stands = λ told.
-            let takes = e.taken told in
+            let takes = e.written.taken told in
             let stood = was.stands told in
             subst (λ (w : SessionRow). StandsForSome w (m.reading n.register.disk)) (sym same) (stood.0 ++ message ∷ [], takes.more stood.0 stood.1);
       };
-      count = e.count;
-      end = e.end;
+      count = e.written.count;
+      end = e.written.end;
       moves = e.moves;
       during = e.during;
-      taken = e.taken;
+      taken = e.written.taken;
       closed = tt;
       answers = record { counts = a.counts; rose = a.rose; never = a.never; always = a.always; room = a.room; disarmed = a.disarmed };
       device = tt;

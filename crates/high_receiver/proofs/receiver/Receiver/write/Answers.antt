@@ -29,16 +29,12 @@ returns-in_err-write_message g c =
     let (device, was, equal) = err_from_is_err_and c.from_residual.result c.from_residual.ensures.1 in
     let is = was ∙ ap (λ d. Err d) equal in
     record {
-      ready = rw (is) tt;
-      settled = rw (is) tt;
-      count = rw (is) tt;
-      end = rw (is) tt;
+      written = rw (is) tt;
       row = refl;
       size = refl;
       «open» = refl;
       moves = moves;
       during = λ messages stands. stored_during m row message messages r.disk w.disk c.requires.ready.settled stands moves;
-      taken = rw (is) tt;
       answers = record {
         counts = e.answers.counts;
         rose = λ _. e.answers.rose refl;
@@ -71,16 +67,12 @@ returns-in_err-stage g c =
     let (device, was, equal) = err_from_is_err_and c.from_residual-in_err-stage.result c.from_residual-in_err-stage.ensures.1 in
     let is = was ∙ ap (λ d. Err d) equal in
     record {
-      ready = rw (is) tt;
-      settled = rw (is) tt;
-      count = rw (is) tt;
-      end = rw (is) tt;
+      written = rw (is) tt;
       row = refl;
       size = refl;
       «open» = refl;
       moves = moves;
       during = λ messages stands. stored_during m row message messages r.disk q.disk c.requires.ready.settled stands moves;
-      taken = rw (is) tt;
       answers = record {
         counts = omega (arith, a.counts, e.answers.counts);
         rose = λ _. let rise = e.answers.rose refl in omega (arith, a.counts, rise);
@@ -129,16 +121,12 @@ returns-in_err-commit g c =
     let (device, was, equal) = err_from_is_err_and c.from_residual-in_err-commit.result c.from_residual-in_err-commit.ensures.1 in
     let is = was ∙ ap (λ d. Err d) equal in
     record {
-      ready = rw (is) tt;
-      settled = rw (is) tt;
-      count = rw (is) tt;
-      end = rw (is) tt;
+      written = rw (is) tt;
       row = refl;
       size = refl;
       «open» = refl;
       moves = moves;
       during = λ messages stands. stored_during m row message messages r.disk n.disk c.requires.ready.settled stands moves;
-      taken = rw (is) tt;
       answers = record {
         counts = omega (arith, a.counts, b.counts, e.answers.counts);
         rose = λ _. let rise = e.answers.rose refl in omega (arith, a.counts, b.counts, rise);
@@ -188,18 +176,20 @@ returns g c =
     let e = c.in_ok-commit.ensures in
     let moves : Moves m (MayTake row message) r.disk n.disk = stored m row message r.disk q.disk n.disk stood (turned m row message q.parity r.first r.second q.disk n.disk c.requires.fits short selects has turn) in
     record {
-      ready = e.ready;
-      settled = e.settled;
-      count = ap (λ (v : ℕ × ℕ). v.0) (e.value ∙ next);
-      end = ap (λ (v : ℕ × ℕ). v.1) (e.value ∙ next);
+      written = record {
+        ready = e.ready;
+        settled = e.settled;
+        count = ap (λ (v : ℕ × ℕ). v.0) (e.value ∙ next);
+        end = ap (λ (v : ℕ × ℕ). v.1) (e.value ∙ next);
+        taken = λ told.
+            taken m row message q.parity r.first r.second (m.reading r.disk) (m.reading q.disk) (m.reading n.disk) c.requires.fits short
+            (selects.reading told) (stood.reads told) (has.reading told) (outside told) (value told);
+      };
       row = refl;
       size = refl;
       «open» = refl;
       moves = moves;
       during = λ messages stands. stored_during m row message messages r.disk n.disk c.requires.ready.settled stands moves;
-      taken = λ told.
-          taken m row message q.parity r.first r.second (m.reading r.disk) (m.reading q.disk) (m.reading n.disk) c.requires.fits short
-          (selects.reading told) (stood.reads told) (has.reading told) (outside told) (value told);
       answers = record {
         counts = omega (arith, a.counts, b.counts, e.answers.counts);
         rose = λ bad. absurd (failed bad);

@@ -1,17 +1,41 @@
 -- The messages of a receiver, one after another.
-use Rattle.std.proofs.Common.{◌≡◌, ℕ, zero, suc, ◌+◌, ◌<◌, ◌≤◌, List, [], ◌∷◌, ◌++◌, Option, length, take, slice_index_or, sym, ◌∙◌, ap, subst, arith, append_assoc}
+use Rattle.std.proofs.Common.{◌≡◌, ℕ, zero, suc, ◌+◌, ◌<◌, ◌≤◌, List, [], ◌∷◌, ◌++◌, Option, length, take, slice_index_or, refl, sym, ◌∙◌, ap, subst, arith, append_assoc}
 use Rattle.std.specs.Io.KnownBytes.{Appends}
 use Rattle.std.proofs.KnownBytes.{Appends-trans}
 use Rattle.std.proofs.lemmas.List.{take_more}
 use Rattle.disk_model.specs.Disk.{Meaning, Moves, Same}
+use Rattle.disk_model.proofs.Run.{goes_on_same, started}
 use Rattle.pump_link.specs.Causes.{AppendsPrefix}
 use Rattle.stable_buffer.specs.Log.{RecvStands}
 use Rattle.stable_buffer.proofs.Cells.{value-selects}
-use Rattle.high_receiver.specs.Receiving.{IsRecvReady}
+use Rattle.high_receiver.specs.Receiving.{IsRecvReady, recv_count, recv_disk, recv_end, recv_row, recv_size}
 use Rattle.high_receiver.specs.declared.receiver.Receiver.{Receiver}
 use Rattle.high_receiver.proofs.Appends.{end_is}
+use Rattle.pump_wrapper.specs.Receivers.{KeepsReceiver}
 use Rattle.pump_wrapper.specs.Wrapped.{piece_of, unwrapped}
 use Rattle.pump_wrapper.proofs.Wrapping.{unwrapped_push}
+
+-- a receiver before anything is read of it, and after one read more
+pub kept_first : {D : Type 0} (m : Meaning D) (receiver : Receiver D) → KeepsReceiver m receiver receiver
+kept_first m receiver = record {
+  count = refl;
+  end = refl;
+  row = refl;
+  size = refl;
+  moves = started m Same (λ bytes. refl) (recv_disk receiver);
+  counts = omega arith;
+}
+
+pub kept_on : {D : Type 0} (m : Meaning D) (old mid new : Receiver D) → KeepsReceiver m old mid → recv_count new ≡ recv_count mid → recv_end new ≡ recv_end mid → recv_row new ≡ recv_row mid → recv_size new ≡ recv_size mid
+    → Moves m Same (recv_disk mid) (recv_disk new) → m.count (recv_disk mid) ≤ m.count (recv_disk new) → KeepsReceiver m old new
+kept_on m old mid new kept count end row size moves counts = record {
+  count = count ∙ kept.count;
+  end = end ∙ kept.end;
+  row = row ∙ kept.row;
+  size = size ∙ kept.size;
+  moves = goes_on_same m Same _ _ _ kept.moves moves;
+  counts = omega (arith, kept.counts, counts);
+}
 
 -- what an unmoved receiver stands for
 pub stands_on : {D : Type 0} (m : Meaning D) (old new : Receiver D) (messages : List (List ℕ)) → new.row ≡ old.row → Moves m Same old.register.disk new.register.disk → m.tells

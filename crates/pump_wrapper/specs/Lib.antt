@@ -4,6 +4,7 @@ pub mod Gathering
 pub mod Gathers
 pub mod HeldBack
 pub mod Comparing
+pub mod Receivers
 pub mod Crashes
 pub mod Sending
 pub mod Halting

@@ -1,12 +1,11 @@
 //! The messages of a receiver are looked for in a file.
 
 ghost use Rattle.std.specs.Prelude.{◌≡◌, ℕ, ◌≤◌, false, List, OnOk};
-ghost use Rattle.disk_model.specs.Disk.{Moves, Same};
 ghost use Rattle.stable_buffer.specs.Log.{RecvStands};
-ghost use Rattle.high_receiver.specs.Receiving.{IsRecvReady, recv_count, recv_disk, recv_end, recv_is_open, recv_row};
-ghost use Rattle.high_receiver.specs.Receiving.{recv_size};
+ghost use Rattle.high_receiver.specs.Receiving.{IsRecvReady, recv_disk, recv_is_open, recv_row};
 ghost use Rattle.pump_wrapper.specs.Comparing.{Compares, CompareCause, IsDeviceStop, SameBytes, TakesInAll};
 ghost use Rattle.pump_wrapper.specs.Cutting.{MayCut, cut_message};
+ghost use Rattle.pump_wrapper.specs.Receivers.{KeepsReceiver};
 
 use crate::{Cut, Cutter};
 use disk_model::Disk;
@@ -46,17 +45,11 @@ pub fn skip_received<D: Disk, I: Source>(
     ensures message { cut_message cutter.new ≡ cut_message cutter.old }
     ensures ready { (IsDeviceStop result → ⊥) → IsRecvReady D.told receiver.new }
     ensures closed { IsDeviceStop result → recv_is_open receiver.new ≡ false }
-    ensures count { recv_count receiver.new ≡ recv_count receiver.old }
-    ensures end { recv_end receiver.new ≡ recv_end receiver.old }
-    ensures row { recv_row receiver.new ≡ recv_row receiver.old }
-    ensures size { recv_size receiver.new ≡ recv_size receiver.old }
-    ensures moves { Moves D.told Same (recv_disk receiver.old) (recv_disk receiver.new) }
+    ensures keeps { KeepsReceiver D.told receiver.old receiver.new }
 
     ensures cause { CompareCause (D.told.count (recv_disk receiver.old))
         (D.told.count (recv_disk receiver.new)) (I.faults file.old) (I.faults file.new) result }
     ensures later { I.faults file.old ≤ I.faults file.new }
-    ensures counts { D.told.count (recv_disk receiver.old)
-        ≤ D.told.count (recv_disk receiver.new) }
 {
     let mut taken = Payload::default();
     let mut wanted = Payload::default();

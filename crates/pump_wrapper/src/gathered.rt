@@ -1,12 +1,11 @@
 //! The file is written again from a receiver's messages.
 
 ghost use Rattle.std.specs.Prelude.{◌≡◌, ◌≢◌, ℕ, ◌≤◌, List, [], true, false, Err};
-ghost use Rattle.disk_model.specs.Disk.{Moves, Same};
 ghost use Rattle.stable_buffer.specs.Log.{RecvStands};
-ghost use Rattle.high_receiver.specs.Receiving.{IsRecvReady, recv_count, recv_disk, recv_end, recv_is_open, recv_row};
-ghost use Rattle.high_receiver.specs.Receiving.{recv_size};
+ghost use Rattle.high_receiver.specs.Receiving.{IsRecvReady, recv_disk, recv_is_open, recv_row};
 ghost use Rattle.pump_wrapper.specs.Gathers.{Gathers, GathersBy, GatherCause, IsDeviceFault, IsUnbroken};
 ghost use Rattle.pump_wrapper.specs.HeldBack.{Held, held_in};
+ghost use Rattle.pump_wrapper.specs.Receivers.{KeepsReceiver};
 ghost use Rattle.pump_link.specs.Causes.{AppendsPrefix};
 
 use crate::gathering::Gathering;
@@ -60,17 +59,11 @@ fn gather_held<D: Disk, O: Sink>(
         (O.written out.new)) message messages result }
     ensures ready { (IsDeviceFault result → ⊥) → IsRecvReady D.told receiver.new }
     ensures closed { IsDeviceFault result → recv_is_open receiver.new ≡ false }
-    ensures count { recv_count receiver.new ≡ recv_count receiver.old }
-    ensures end { recv_end receiver.new ≡ recv_end receiver.old }
-    ensures row { recv_row receiver.new ≡ recv_row receiver.old }
-    ensures size { recv_size receiver.new ≡ recv_size receiver.old }
-    ensures moves { Moves D.told Same (recv_disk receiver.old) (recv_disk receiver.new) }
+    ensures keeps { KeepsReceiver D.told receiver.old receiver.new }
 
     ensures cause { GatherCause (D.told.count (recv_disk receiver.old))
         (D.told.count (recv_disk receiver.new)) (O.faults out.old) (O.faults out.new) result }
     ensures later { O.faults out.old ≤ O.faults out.new }
-    ensures counts { D.told.count (recv_disk receiver.old)
-        ≤ D.told.count (recv_disk receiver.new) }
 {
     let mut gathering = Gathering::new(message);
     let mut log = receiver.reader();
@@ -114,17 +107,11 @@ pub fn gather<D: Disk, O: Sink>(
         → Gathers message messages (O.written out.old) (O.written out.new) result }
     ensures ready { IsUnbroken result → IsRecvReady D.told receiver.new }
     ensures closed { IsDeviceFault result → recv_is_open receiver.new ≡ false }
-    ensures count { recv_count receiver.new ≡ recv_count receiver.old }
-    ensures end { recv_end receiver.new ≡ recv_end receiver.old }
-    ensures row { recv_row receiver.new ≡ recv_row receiver.old }
-    ensures size { recv_size receiver.new ≡ recv_size receiver.old }
-    ensures moves { Moves D.told Same (recv_disk receiver.old) (recv_disk receiver.new) }
+    ensures keeps { KeepsReceiver D.told receiver.old receiver.new }
 
     ensures cause { GatherCause (D.told.count (recv_disk receiver.old))
         (D.told.count (recv_disk receiver.new)) (O.faults out.old) (O.faults out.new) result }
     ensures later { O.faults out.old ≤ O.faults out.new }
-    ensures counts { D.told.count (recv_disk receiver.old)
-        ≤ D.told.count (recv_disk receiver.new) }
 {
     let mut room = Room::new();
     let gathered = gather_held(receiver, &mut room, out, message);

@@ -3,13 +3,11 @@ use Rattle.std.specs.Prelude.{not}
 use Rattle.std.proofs.KnownBytes.{Consumes-nil}
 use Rattle.std.proofs.lemmas.List.{take_all}
 use Rattle.std.proofs.lemmas.Slice.Eq.{bytes_eq-Decides}
-use Rattle.disk_model.specs.Disk.{Same}
-use Rattle.disk_model.proofs.Run.{goes_on_same, started}
 use Rattle.high_receiver.proofs.Places.{first_record}
 use Rattle.pump_wrapper.specs.declared.compare.CompareFault.TheVariants.{Device, Differs, Read, TooLong}
 use Rattle.pump_wrapper.proofs.Compared.{passed, none_passed, none_counted, one_passed, one_counted, ends_before, differs_there, takes_stopped, takes_long, takes_on}
 use Rattle.pump_wrapper.proofs.Unseen.{stops_unseen}
-use Rattle.pump_wrapper.proofs.Takings.{stands_on, count_is, next_message}
+use Rattle.pump_wrapper.proofs.Takings.{kept_first, kept_on, stands_on, count_is, next_message}
 use Rattle.pump_wrapper.proofs.compare.skip_received.Goals as goal
 
 not_false : (b : Bool) → not b ≡ false → b ≡ true
@@ -19,13 +17,8 @@ not_false false e = sym e
 pub loop-number-init : goal.loop-number-init
 loop-number-init g c = record {
   ready = c.requires.ready;
-  count = refl;
-  end = refl;
-  row = refl;
-  size = refl;
+  keeps = kept_first g.D.Disk.told c.args.receiver.now;
   place = first_record g.D.Disk.told _ c.requires.ready;
-  moves = started g.D.Disk.told Same (λ l. refl) _;
-  counts = omega arith;
   later = omega arith;
   may = c.requires.may;
   message = refl;
@@ -39,7 +32,7 @@ at-requires g c =
     let kept = c.loop-number.invariant in
     record {
       ready = kept.ready;
-      taken = omega (arith, c.loop-number-test.true, c.count-number-end.ensures, kept.count);
+      taken = omega (arith, c.loop-number-test.true, c.count-number-end.ensures, kept.keeps.count);
       place = kept.place;
     }
 
@@ -59,14 +52,9 @@ returns-in-Err g c =
       message = kept.message;
       ready = λ other. absurd (other tt);
       closed = λ device. e.closed;
-      count = e.count ∙ kept.count;
-      end = e.end ∙ kept.end;
-      row = e.row ∙ kept.row;
-      size = e.size ∙ kept.size;
-      moves = goes_on_same m Same _ _ _ kept.moves e.moves;
-      cause = (e.device, omega (arith, kept.counts, e.answers.rose refl));
+      keeps = kept_on m _ _ _ kept.keeps e.count e.end e.row e.size e.moves e.answers.counts;
+      cause = (e.device, omega (arith, kept.keeps.counts, e.answers.rose refl));
       later = kept.later;
-      counts = omega (arith, kept.counts, e.answers.counts);
     }
 
 pub returns-in-Done : goal.returns-in-Done
@@ -79,8 +67,8 @@ returns-in-Done g c =
     let t = next.takes in
     record {
       compares = λ told messages stands.
-          let on = stands_on m c.args.receiver.now c.loop-number.receiver messages kept.row kept.moves told stands in
-          let lt : n < length messages = omega (arith, c.loop-number-test.true, c.count-number-end.ensures, kept.count, count_is m c.loop-number.receiver messages kept.ready told on) in
+          let on = stands_on m c.args.receiver.now c.loop-number.receiver messages kept.keeps.row kept.keeps.moves told stands in
+          let lt : n < length messages = omega (arith, c.loop-number-test.true, c.count-number-end.ensures, kept.keeps.count, count_is m c.loop-number.receiver messages kept.ready told on) in
           let more = next_message messages n c.at.new.into c.at.new.into lt (e.message told messages on) refl in
           ends_before messages n c.at.new.into c.next.new.into c.args.cutter.now c.loop-number.cutter c.next.new.self _ _ _ kept.bytes.0 kept.bytes.1 lt more (kept.passed told messages stands) next.gives;
       same = tt;
@@ -89,14 +77,9 @@ returns-in-Done g c =
       message = next.same ∙ kept.message;
       ready = λ other. e.ready;
       closed = λ device. absurd device;
-      count = e.count ∙ kept.count;
-      end = e.end ∙ kept.end;
-      row = e.row ∙ kept.row;
-      size = e.size ∙ kept.size;
-      moves = goes_on_same m Same _ _ _ kept.moves e.moves;
+      keeps = kept_on m _ _ _ kept.keeps e.count e.end e.row e.size e.moves e.answers.counts;
       cause = tt;
       later = omega (arith, kept.later, next.later);
-      counts = omega (arith, kept.counts, e.answers.counts);
     }
 
 pub returns-in-Failed : goal.returns-in-Failed
@@ -116,14 +99,9 @@ returns-in-Failed g c =
       message = next.same ∙ kept.message;
       ready = λ other. e.ready;
       closed = λ device. absurd device;
-      count = e.count ∙ kept.count;
-      end = e.end ∙ kept.end;
-      row = e.row ∙ kept.row;
-      size = e.size ∙ kept.size;
-      moves = goes_on_same m Same _ _ _ kept.moves e.moves;
+      keeps = kept_on m _ _ _ kept.keeps e.count e.end e.row e.size e.moves e.answers.counts;
       cause = omega (arith, kept.later, next.failed refl);
       later = omega (arith, kept.later, next.later);
-      counts = omega (arith, kept.counts, e.answers.counts);
     }
 
 pub returns-in-TooLong : goal.returns-in-TooLong
@@ -143,14 +121,9 @@ returns-in-TooLong g c =
       message = next.same ∙ kept.message;
       ready = λ other. e.ready;
       closed = λ device. absurd device;
-      count = e.count ∙ kept.count;
-      end = e.end ∙ kept.end;
-      row = e.row ∙ kept.row;
-      size = e.size ∙ kept.size;
-      moves = goes_on_same m Same _ _ _ kept.moves e.moves;
+      keeps = kept_on m _ _ _ kept.keeps e.count e.end e.row e.size e.moves e.answers.counts;
       cause = tt;
       later = omega (arith, kept.later, next.later);
-      counts = omega (arith, kept.counts, e.answers.counts);
     }
 
 pub returns-then-ne : goal.returns-then-ne
@@ -163,8 +136,8 @@ returns-then-ne g c =
     let t = next.takes in
     record {
       compares = λ told messages stands.
-          let on = stands_on m c.args.receiver.now c.loop-number.receiver messages kept.row kept.moves told stands in
-          let lt : n < length messages = omega (arith, c.loop-number-test.true, c.count-number-end.ensures, kept.count, count_is m c.loop-number.receiver messages kept.ready told on) in
+          let on = stands_on m c.args.receiver.now c.loop-number.receiver messages kept.keeps.row kept.keeps.moves told stands in
+          let lt : n < length messages = omega (arith, c.loop-number-test.true, c.count-number-end.ensures, kept.keeps.count, count_is m c.loop-number.receiver messages kept.ready told on) in
           let more = next_message messages n c.at.new.into c.at.new.into lt (e.message told messages on) refl in
           let other : c.at.new.into ≡ c.next.new.into → ⊥ =
           λ is.
@@ -177,14 +150,9 @@ returns-then-ne g c =
       message = next.same ∙ kept.message;
       ready = λ other. e.ready;
       closed = λ device. absurd device;
-      count = e.count ∙ kept.count;
-      end = e.end ∙ kept.end;
-      row = e.row ∙ kept.row;
-      size = e.size ∙ kept.size;
-      moves = goes_on_same m Same _ _ _ kept.moves e.moves;
+      keeps = kept_on m _ _ _ kept.keeps e.count e.end e.row e.size e.moves e.answers.counts;
       cause = tt;
       later = omega (arith, kept.later, next.later);
-      counts = omega (arith, kept.counts, e.answers.counts);
     }
 
 pub loop-number-preserved : goal.loop-number-preserved
@@ -198,19 +166,14 @@ loop-number-preserved g c =
     let same : c.at.new.into ≡ c.next.new.into = sym c.as_slice.ensures.value ∙ (bytes_eq-Decides c.as_slice.result.now c.as_slice-in-loop-number.result.now).0 (not_false _ (sym c.ne.ensures ∙ c.if-ne.false)) ∙ c.as_slice-in-loop-number.ensures.value in
     record {
       ready = e.ready;
-      count = e.count ∙ kept.count;
-      end = e.end ∙ kept.end;
-      row = e.row ∙ kept.row;
-      size = e.size ∙ kept.size;
+      keeps = kept_on m _ _ _ kept.keeps e.count e.end e.row e.size e.moves e.answers.counts;
       place = e.next;
-      moves = goes_on_same m Same _ _ _ kept.moves e.moves;
-      counts = omega (arith, kept.counts, e.answers.counts);
       later = omega (arith, kept.later, next.later);
       may = next.may refl;
       message = next.same ∙ kept.message;
       passed = λ told messages stands.
-          let on = stands_on m c.args.receiver.now c.loop-number.receiver messages kept.row kept.moves told stands in
-          let lt : n < length messages = omega (arith, c.loop-number-test.true, c.count-number-end.ensures, kept.count, count_is m c.loop-number.receiver messages kept.ready told on) in
+          let on = stands_on m c.args.receiver.now c.loop-number.receiver messages kept.keeps.row kept.keeps.moves told stands in
+          let lt : n < length messages = omega (arith, c.loop-number-test.true, c.count-number-end.ensures, kept.keeps.count, count_is m c.loop-number.receiver messages kept.ready told on) in
           let more = next_message messages n c.at.new.into c.next.new.into lt (e.message told messages on) (sym same) in
           one_passed (take n messages) (take (n + 1) messages) c.next.new.into c.args.cutter.now c.loop-number.cutter c.next.new.self _ _ _ kept.bytes.0 kept.bytes.1 (kept.passed told messages stands) next.gives more;
       same = one_counted c.args.cutter.now c.loop-number.cutter c.next.new.self _ _ _ kept.bytes.0 kept.bytes.1 kept.same next.counts;
@@ -224,8 +187,8 @@ returns g c =
     let n = c.loop-number.number in
     record {
       compares = λ told messages stands.
-          let on = stands_on m c.args.receiver.now c.loop-number.receiver messages kept.row kept.moves told stands in
-          let all : take n messages ≡ messages = take_all n messages (omega (arith, c.loop-number-test.false, c.count-number-end.ensures, kept.count, count_is m c.loop-number.receiver messages kept.ready told on)) in
+          let on = stands_on m c.args.receiver.now c.loop-number.receiver messages kept.keeps.row kept.keeps.moves told stands in
+          let all : take n messages ≡ messages = take_all n messages (omega (arith, c.loop-number-test.false, c.count-number-end.ensures, kept.keeps.count, count_is m c.loop-number.receiver messages kept.ready told on)) in
           subst (λ (ms : List (List ℕ)). passed ms c.args.cutter.now c.loop-number.cutter (g.I.Source.left c.args.file.now) (g.I.Source.left c.loop-number.file)) all (kept.passed told messages stands);
       same = kept.same;
       takes = (kept.bytes.0, kept.bytes.1, (λ long. absurd cc), (λ other. omega (arith, kept.may.few, kept.bytes.2)), λ ok. kept.bytes.2);
@@ -233,12 +196,7 @@ returns g c =
       message = kept.message;
       ready = λ other. kept.ready;
       closed = λ device. absurd device;
-      count = kept.count;
-      end = kept.end;
-      row = kept.row;
-      size = kept.size;
-      moves = kept.moves;
+      keeps = kept.keeps;
       cause = tt;
       later = kept.later;
-      counts = kept.counts;
     }

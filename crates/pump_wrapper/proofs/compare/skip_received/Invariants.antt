@@ -1,10 +1,10 @@
 use Rattle.std.proofs.Common.{◌≡◌, ℕ, ◌+◌, ◌≤◌, List, length, take}
 use Rattle.std.specs.Io.KnownBytes.{Consumes}
-use Rattle.disk_model.specs.Disk.{Moves, Same}
 use Rattle.stable_buffer.specs.Log.{RecvStands}
-use Rattle.high_receiver.specs.Receiving.{IsRecvReady, IsRecordAt, recv_count, recv_disk, recv_end, recv_row, recv_size}
+use Rattle.high_receiver.specs.Receiving.{IsRecvReady, IsRecordAt, recv_disk, recv_row}
 use Rattle.pump_wrapper.specs.Comparing.{SameBytes}
 use Rattle.pump_wrapper.specs.Cutting.{MayCut, cut_bytes, cut_message}
+use Rattle.pump_wrapper.specs.Receivers.{KeepsReceiver}
 use Rattle.pump_wrapper.proofs.Compared.{passed}
 use Rattle.pump_wrapper.proofs.compare.skip_received.Given as goal
 
@@ -14,13 +14,8 @@ invariant-loop-number g l =
     let r = l.fn.receiver in
     record {
       ready : IsRecvReady m l.receiver;
-      count : recv_count l.receiver ≡ recv_count r;
-      end : recv_end l.receiver ≡ recv_end r;
-      row : recv_row l.receiver ≡ recv_row r;
-      size : recv_size l.receiver ≡ recv_size r;
+      keeps : KeepsReceiver m r l.receiver;
       place : IsRecordAt m l.receiver l.number l.at;
-      moves : Moves m Same (recv_disk r) (recv_disk l.receiver);
-      counts : m.count (recv_disk r) ≤ m.count (recv_disk l.receiver);
       later : g.I.Source.faults l.fn.file ≤ g.I.Source.faults l.file;
       may : MayCut l.cutter;
       message : cut_message l.cutter ≡ cut_message l.fn.cutter;

@@ -1,17 +1,14 @@
-use Rattle.std.proofs.Common.{◌≡◌, ℕ, ◌+◌, ◌<◌, List, [], ◌∷◌, ◌++◌, length, take, slice_index_or, refl, sym, ◌∙◌, ap, subst, arith, length-append, append_assoc}
+use Rattle.std.proofs.Common.{◌≡◌, ℕ, ◌+◌, ◌<◌, List, [], ◌∷◌, ◌++◌, length, take, slice_index_or, sym, ◌∙◌, ap, subst, arith, length-append, append_assoc}
 use Rattle.std.proofs.lemmas.List.{take_all}
-use Rattle.disk_model.specs.Disk.{Same}
 use Rattle.stable_buffer.specs.Log.{RecvStands}
-use Rattle.disk_model.proofs.Run.{goes_on_same, started}
 use Rattle.std.proofs.KnownBytes.{Appends-nil}
-use Rattle.high_receiver.specs.Receiving.{recv_disk}
 use Rattle.pump_link.specs.Causes.{AppendsPrefix}
 use Rattle.high_receiver.specs.LogReading.{given_message}
 use Rattle.pump_wrapper.specs.HeldBack.{Held, held_in}
 use Rattle.pump_wrapper.specs.Wrapped.{unwrapped, BeginsFile}
 use Rattle.pump_wrapper.specs.Gathering.{HasTaken}
 use Rattle.pump_wrapper.proofs.Following.{begins, begins_no, one_taken, whole_file, file_whole}
-use Rattle.pump_wrapper.proofs.Takings.{length_of_piece, stands_on, count_is, next_message, next_bytes, prefix_behind}
+use Rattle.pump_wrapper.proofs.Takings.{kept_first, kept_on, length_of_piece, stands_on, count_is, next_message, next_bytes, prefix_behind}
 use Rattle.pump_wrapper.proofs.gathered.gather_held.Goals as goal
 
 pub returns-in-Err : goal.returns-in-Err
@@ -22,19 +19,14 @@ returns-in-Err g c =
     record {
       gathers = λ told messages stands.
           let n = c.loop-number.number in
-          let on = stands_on m c.args.receiver.now c.loop-number.receiver messages kept.row kept.moves told stands in
-          let lt : n < length messages = omega (arith, c.loop-number-test.true, c.count-number-end.ensures, kept.count, count_is m c.loop-number.receiver messages kept.ready told on) in
+          let on = stands_on m c.args.receiver.now c.loop-number.receiver messages kept.keeps.row kept.keeps.moves told stands in
+          let lt : n < length messages = omega (arith, c.loop-number-test.true, c.count-number-end.ensures, kept.keeps.count, count_is m c.loop-number.receiver messages kept.ready told on) in
           (n, lt, begins c.args.message (take n messages) c.loop-number.gathering (kept.taken told messages stands), kept.wrote told messages stands);
       ready = λ other. absurd (other tt);
       closed = λ device. e.closed;
-      count = e.count ∙ kept.count;
-      end = e.end ∙ kept.end;
-      row = e.row ∙ kept.row;
-      size = e.size ∙ kept.size;
-      moves = goes_on_same m Same _ _ _ kept.moves e.moves;
-      cause = (e.device, omega (arith, kept.counts, e.rose));
+      keeps = kept_on m _ _ _ kept.keeps e.count e.end e.row e.size e.moves e.counts;
+      cause = (e.device, omega (arith, kept.keeps.counts, e.rose));
       later = kept.later;
-      counts = omega (arith, kept.counts, e.counts);
     }
 
 pub returns-in_default : goal.returns-in_default
@@ -45,22 +37,17 @@ returns-in_default g c =
     record {
       gathers = λ told messages stands.
           let n = c.loop-number.number in
-          let on = stands_on m c.args.receiver.now c.loop-number.receiver messages kept.row kept.moves told stands in
-          let lt : n < length messages = omega (arith, c.loop-number-test.true, c.count-number-end.ensures, kept.count, count_is m c.loop-number.receiver messages kept.ready told on) in
+          let on = stands_on m c.args.receiver.now c.loop-number.receiver messages kept.keeps.row kept.keeps.moves told stands in
+          let lt : n < length messages = omega (arith, c.loop-number-test.true, c.count-number-end.ensures, kept.keeps.count, count_is m c.loop-number.receiver messages kept.ready told on) in
           let more = next_message messages n (given_message c.advance.new.self) c.message.result.now lt (c.in-Ok.ensures.message told messages on ∙ ap (λ k. slice_index_or messages k []) kept.given) c.message.ensures.message in
           let has = kept.taken told messages stands in
           let never = begins_no c.args.message (take n messages) c.message.result.now c.loop-number.gathering has c.in_default.ensures.taken in
           (lt, begins c.args.message (take n messages) c.loop-number.gathering has, subst (λ (ms : List (List ℕ)). BeginsFile c.args.message ms → ⊥) more never, kept.wrote told messages stands);
       ready = λ other. e.ready;
       closed = λ device. absurd device;
-      count = e.count ∙ kept.count;
-      end = e.end ∙ kept.end;
-      row = e.row ∙ kept.row;
-      size = e.size ∙ kept.size;
-      moves = goes_on_same m Same _ _ _ kept.moves e.moves;
+      keeps = kept_on m _ _ _ kept.keeps e.count e.end e.row e.size e.moves e.counts;
       cause = tt;
       later = kept.later;
-      counts = omega (arith, kept.counts, e.counts);
     }
 
 pub returns-in-Err-put : goal.returns-in-Err-put
@@ -74,8 +61,8 @@ returns-in-Err-put g c =
           let asl = c.message.result.now in
           let piece = c.in-Some.piece.now in
           let step = c.in-Some.ensures.taken in
-          let on = stands_on m c.args.receiver.now c.loop-number.receiver messages kept.row kept.moves told stands in
-          let lt : n < length messages = omega (arith, c.loop-number-test.true, c.count-number-end.ensures, kept.count, count_is m c.loop-number.receiver messages kept.ready told on) in
+          let on = stands_on m c.args.receiver.now c.loop-number.receiver messages kept.keeps.row kept.keeps.moves told stands in
+          let lt : n < length messages = omega (arith, c.loop-number-test.true, c.count-number-end.ensures, kept.keeps.count, count_is m c.loop-number.receiver messages kept.ready told on) in
           let more = next_message messages n (given_message c.advance.new.self) asl lt (c.in-Ok.ensures.message told messages on ∙ ap (λ k. slice_index_or messages k []) kept.given) c.message.ensures.message in
           let has = one_taken c.args.message (take n messages) asl c.loop-number.gathering c.take.new.self (kept.taken told messages stands) step.0 in
           let held = kept.wrote told messages stands in
@@ -89,14 +76,9 @@ returns-in-Err-put g c =
           );
       ready = λ other. e.ready;
       closed = λ device. absurd device;
-      count = e.count ∙ kept.count;
-      end = e.end ∙ kept.end;
-      row = e.row ∙ kept.row;
-      size = e.size ∙ kept.size;
-      moves = goes_on_same m Same _ _ _ kept.moves e.moves;
+      keeps = kept_on m _ _ _ kept.keeps e.count e.end e.row e.size e.moves e.counts;
       cause = omega (arith, kept.later, c.in-Err-put.ensures.cause.failed);
       later = omega (arith, kept.later, c.in-Err-put.ensures.cause.later);
-      counts = omega (arith, kept.counts, e.counts);
     }
 
 pub put-requires : goal.put-requires
@@ -111,14 +93,9 @@ loop-number-init g c =
     let new = c.new-gathering.ensures in
     record {
       ready = c.requires.ready;
-      count = refl;
-      end = refl;
-      row = refl;
-      size = refl;
+      keeps = kept_first m c.args.receiver.now;
       reading = log.reading;
       given = log.given;
-      moves = started m Same (λ bytes. refl) (recv_disk c.args.receiver.now);
-      counts = omega arith;
       later = omega arith;
       piece = new.size;
       few = omega (arith, new.bytes);
@@ -137,20 +114,15 @@ loop-number-preserved g c =
     let step = c.in-Some.ensures.taken in
     let asl = c.message.result.now in
     let piece = c.in-Some.piece.now in
-    let on = λ (told : m.tells) (messages : List (List ℕ)) (stands : RecvStands c.args.receiver.now.row messages (m.reading c.args.receiver.now.register.disk)). stands_on m c.args.receiver.now c.loop-number.receiver messages kept.row kept.moves told stands in
+    let on = λ (told : m.tells) (messages : List (List ℕ)) (stands : RecvStands c.args.receiver.now.row messages (m.reading c.args.receiver.now.register.disk)). stands_on m c.args.receiver.now c.loop-number.receiver messages kept.keeps.row kept.keeps.moves told stands in
     let more = λ (told : m.tells) (messages : List (List ℕ)) (stands : RecvStands c.args.receiver.now.row messages (m.reading c.args.receiver.now.register.disk)).
-    next_message messages n (given_message c.advance.new.self) asl (omega (arith, c.loop-number-test.true, c.count-number-end.ensures, kept.count, count_is m c.loop-number.receiver messages kept.ready told (on told messages stands))) (e.message told messages (on told messages stands) ∙ ap (λ k. slice_index_or messages k []) kept.given) c.message.ensures.message in
+    next_message messages n (given_message c.advance.new.self) asl (omega (arith, c.loop-number-test.true, c.count-number-end.ensures, kept.keeps.count, count_is m c.loop-number.receiver messages kept.ready told (on told messages stands))) (e.message told messages (on told messages stands) ∙ ap (λ k. slice_index_or messages k []) kept.given) c.message.ensures.message in
     let bytes = λ (told : m.tells) (messages : List (List ℕ)) (stands : RecvStands c.args.receiver.now.row messages (m.reading c.args.receiver.now.register.disk)). next_bytes messages n asl piece (more told messages stands) step.1 in
     record {
       ready = e.ready;
-      count = e.count ∙ kept.count;
-      end = e.end ∙ kept.end;
-      row = e.row ∙ kept.row;
-      size = e.size ∙ kept.size;
+      keeps = kept_on m _ _ _ kept.keeps e.count e.end e.row e.size e.moves e.counts;
       reading = e.reading;
       given = e.given ∙ ap (λ k. k + 1) kept.given;
-      moves = goes_on_same m Same _ _ _ kept.moves e.moves;
-      counts = omega (arith, kept.counts, e.counts);
       later = omega (arith, kept.later, c.put.ensures.cause.later);
       piece = c.take.ensures.size ∙ kept.piece;
       few = omega (arith, kept.few, c.in-Some.ensures.bytes, c.message.ensures.short, length_of_piece asl, ap length step.1);
@@ -166,8 +138,8 @@ returns g c =
     record {
       gathers = λ told messages stands.
           let n = c.loop-number.number in
-          let on = stands_on m c.args.receiver.now c.loop-number.receiver messages kept.row kept.moves told stands in
-          let all : take n messages ≡ messages = take_all n messages (omega (arith, c.loop-number-test.false, c.count-number-end.ensures, kept.count, count_is m c.loop-number.receiver messages kept.ready told on)) in
+          let on = stands_on m c.args.receiver.now c.loop-number.receiver messages kept.keeps.row kept.keeps.moves told stands in
+          let all : take n messages ≡ messages = take_all n messages (omega (arith, c.loop-number-test.false, c.count-number-end.ensures, kept.keeps.count, count_is m c.loop-number.receiver messages kept.ready told on)) in
           let has = subst (λ (ms : List (List ℕ)). HasTaken c.args.message ms c.loop-number.gathering) all (kept.taken told messages stands) in
           let is = c.is_whole.ensures in (
             begins c.args.message messages c.loop-number.gathering has,
@@ -177,14 +149,9 @@ returns g c =
           );
       ready = λ other. kept.ready;
       closed = λ device. absurd device;
-      count = kept.count;
-      end = kept.end;
-      row = kept.row;
-      size = kept.size;
-      moves = kept.moves;
+      keeps = kept.keeps;
       cause = tt;
       later = kept.later;
-      counts = kept.counts;
     }
 
 pub advance-requires : goal.advance-requires
@@ -193,5 +160,5 @@ advance-requires g c =
     record {
       ready = kept.ready;
       reading = kept.reading;
-      more = omega (arith, c.loop-number-test.true, c.count-number-end.ensures, kept.count, kept.given);
+      more = omega (arith, c.loop-number-test.true, c.count-number-end.ensures, kept.keeps.count, kept.given);
     }

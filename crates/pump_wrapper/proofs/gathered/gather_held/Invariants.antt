@@ -1,9 +1,9 @@
 use Rattle.std.proofs.Common.{◌≡◌, ℕ, ◌-◌, ◌*◌, ◌≤◌, List, length, take}
-use Rattle.disk_model.specs.Disk.{Moves, Same}
 use Rattle.stable_buffer.specs.Log.{RecvStands}
-use Rattle.high_receiver.specs.Receiving.{IsRecvReady, recv_count, recv_disk, recv_end, recv_row, recv_size}
+use Rattle.high_receiver.specs.Receiving.{IsRecvReady, recv_disk, recv_row}
 use Rattle.high_receiver.specs.LogReading.{IsReading, given_count}
 use Rattle.pump_wrapper.specs.HeldBack.{Held, held_in}
+use Rattle.pump_wrapper.specs.Receivers.{KeepsReceiver}
 use Rattle.pump_wrapper.specs.Wrapped.{unwrapped}
 use Rattle.pump_wrapper.specs.Gathering.{HasTaken}
 use Rattle.pump_wrapper.proofs.gathered.gather_held.Given as goal
@@ -14,14 +14,9 @@ invariant-loop-number g l =
     let r = l.fn.receiver in
     record {
       ready : IsRecvReady m l.receiver;
-      count : recv_count l.receiver ≡ recv_count r;
-      end : recv_end l.receiver ≡ recv_end r;
-      row : recv_row l.receiver ≡ recv_row r;
-      size : recv_size l.receiver ≡ recv_size r;
+      keeps : KeepsReceiver m r l.receiver;
       reading : IsReading m l.receiver l.log;
       given : given_count l.log ≡ l.number;
-      moves : Moves m Same (recv_disk r) (recv_disk l.receiver);
-      counts : m.count (recv_disk r) ≤ m.count (recv_disk l.receiver);
       later : g.O.Sink.faults l.fn.out ≤ g.O.Sink.faults l.out;
       piece : l.gathering.size ≡ l.fn.message - 1;
       few : l.gathering.bytes ≤ l.number * 1024;

@@ -5,7 +5,7 @@ use Rattle.file_messages.specs.Files.{State, Inside}
 use Rattle.file_messages.specs.Messages.{start_message}
 use Rattle.file_messages.specs.Assemblies.{StandsFor}
 use Rattle.file_messages.specs.declared.assembly.Assembly.{Assembly}
-use Rattle.folders.specs.Placing.{Placing, Part, Missing, Lying, Given}
+use Rattle.folders.specs.Placing.{Placing, Part, Missing, Lying, Given, Turns}
 use Rattle.file_collector.specs.Gathering.{IsWellBegun, IsGathering}
 use Rattle.file_collector.specs.Collecting.{HasRegister}
 use Rattle.file_collector.specs.Registers.{IsKept, HasStart}
@@ -64,3 +64,10 @@ pub record IsFoundWith {I D : Type 0} (mi : Placing I) (md : Meaning D) (inbox :
 -- .. no file is lost
 abbrev pub IsFoundAt : {I D : Type 0} → Placing I → Meaning D → I → Found D → ℕ → State → Type 0
 IsFoundAt mi md inbox found count state = IsFoundWith mi md inbox found count state None
+
+-- what looking for the part leaves of an inbox: the files that are shown, also after a crash; the count of faults
+-- does not fall
+pub record KeepsShown {I : Type 0} (m : Placing I) (old new : I) : Type 0 where
+  pub shown : m.shown new ≡ m.shown old
+  pub turns : Turns m (λ names. ⊥) old new
+  pub later : m.count old ≤ m.count new

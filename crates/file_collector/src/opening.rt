@@ -21,7 +21,7 @@ ghost use Rattle.file_collector.specs.Closed.{IsTaken, RegisterReads, IsSound, I
 ghost use Rattle.file_collector.specs.Closed.{IsLeftOf};
 ghost use Rattle.file_collector.specs.Registers.{MayTurn, MayLeaveFile};
 ghost use Rattle.file_collector.specs.Opening.{HasFed, IsBegun, IsBegunWith, IsBegunBy, IsFound, IsFoundAt, lying_part};
-ghost use Rattle.file_collector.specs.Opening.{IsFoundWith};
+ghost use Rattle.file_collector.specs.Opening.{IsFoundWith, KeepsShown};
 ghost use Rattle.file_collector.specs.declared.values.CollectFault.TheVariants.{Register as OfRegister};
 
 use crate::making::make;
@@ -239,10 +239,8 @@ where
     ensures taken { IfOk result (λ part. IfSome part (λ disk.
         LyingTaken I.told I.Disk.told inbox.old count disk)) }
     ensures left { result ≡ Ok None → I.told.tells → I.told.part inbox.new ≡ I.told.part inbox.old }
-    ensures shown { I.told.shown inbox.new ≡ I.told.shown inbox.old }
+    ensures keeps { KeepsShown I.told inbox.old inbox.new }
     ensures durable { OnOk result (IsDurable I.told inbox.old → IsDurable I.told inbox.new) }
-    ensures turns { Turns I.told (λ names. ⊥) inbox.old inbox.new }
-    ensures later { I.told.count inbox.old ≤ I.told.count inbox.new }
     ensures cause { IfErr result (λ fault. IsResumeFault I.told I.Disk.told inbox.old inbox.new count fault) }
 {
     match inbox.resume(count) {
@@ -391,9 +389,7 @@ where
         (register_disk register) (register_disk found.register)) }
     ensures part { IfOk result (λ found. IfSome found.part (λ disk.
         LyingTaken I.told I.Disk.told inbox.old ((register_value register).1 - 1) disk)) }
-    ensures shown { I.told.shown inbox.new ≡ I.told.shown inbox.old }
-    ensures turns { Turns I.told (λ names. ⊥) inbox.old inbox.new }
-    ensures later { I.told.count inbox.old ≤ I.told.count inbox.new }
+    ensures keeps { KeepsShown I.told inbox.old inbox.new }
     ensures cause { IfErr result (λ fault. IsFindFault I.told I.Disk.told inbox.old inbox.new register fault) }
 {
     let mut assembly = read_start(&mut register)?;

@@ -117,7 +117,13 @@ returns-clause-own g c =
     on_ok_by c.find_part.result _ _ (own_by g.I.Inbox.told g.I.Disk.Disk.told c.args.inbox.now c.in_ok-register.register c.in_ok-register.ensures.taken) c.find_part.ensures.sound
 
 pub returns-clause-turns : goal.returns-clause-turns
-returns-clause-turns g c = turns_on g.I.Inbox.told c.args.inbox.now c.take_register.new.inbox c.find_part.new.inbox c.in_ok-register.ensures.stays.turns c.find_part.ensures.turns
+returns-clause-turns g c = turns_on g.I.Inbox.told c.args.inbox.now c.take_register.new.inbox c.find_part.new.inbox c.in_ok-register.ensures.stays.turns c.find_part.ensures.keeps.turns
+
+pub returns-clause-shown : goal.returns-clause-shown
+returns-clause-shown g c = c.find_part.ensures.keeps.shown ∙ c.in_ok-register.ensures.stays.shown
+
+pub returns-clause-later : goal.returns-clause-later
+returns-clause-later g c = omega (arith, c.take_register.ensures.later, c.find_part.ensures.keeps.later)
 
 pub returns-then-value-eq0-clause-during : goal.returns-then-value-eq0-clause-during
 returns-then-value-eq0-clause-during g c =

@@ -7,6 +7,7 @@ ghost use Rattle.stable_buffer.specs.Stands.{spelled};
 ghost use Rattle.file_messages.specs.Files.{State};
 ghost use Rattle.file_messages.specs.Assemblies.{progress_of};
 ghost use Rattle.file_messages.specs.Messages.{start_message};
+ghost use Rattle.file_collector.specs.Collecting.{HasRegister};
 ghost use Rattle.file_collector.specs.Registers.{StandsOn, MayTurn, Turns, HasStart, register_size, held};
 ghost use Rattle.file_collector.specs.Held.{IsWithin, held_by};
 
@@ -76,11 +77,9 @@ fn prepare<D: Disk>(register: &mut Register<D>, progress: &Option<Progress>) -> 
 
 /// Turns the register to one message more, which led to a file so far, or to between two files.
 pub fn turn<D: Disk>(register: &mut Register<D>, progress: &Option<Progress>) -> Result<(), Device>
-    requires ready { IsReady D.told register.old }
-    requires settled { Settled D.told (register_disk register.old) }
+    requires register { HasRegister D.told register.old }
     requires within { IsWithin progress.now }
     requires below { (register_value register.old).0 < 2 ^ 48 }
-    requires size { D.told.tells → length (D.told.reading (register_disk register.old)) ≡ register_size }
 
     ensures ready { OnOk result (IsReady D.told register.new) }
     ensures settled { OnOk result (Settled D.told (register_disk register.new)) }

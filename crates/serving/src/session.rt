@@ -81,7 +81,7 @@ fn serve_over<
 >(
     rt: &T,
     serving: &Serving<'_, V>,
-    parts: SessionParts<D, L, H>,
+    mut parts: SessionParts<D, L, H>,
     low_side: &mut RelaySide<P, K>,
     high_side: &mut RelaySide<P, K>,
     tape: &mut O,
@@ -105,13 +105,7 @@ where
         high_side.new tape.old tape.new parts.low parts.high (low_in result) (high_in result) (end_in result) }
 {
     let row = serving.row;
-    let SessionParts {
-        low,
-        high,
-        mut low_end,
-        high_end,
-    } = parts;
-    let opened = match open_pump_waiting(rt, low, high, row, &mut low_end) {
+    let opened = match open_pump_waiting(rt, parts.low, parts.high, row, &mut parts.low_end) {
         Ok(opened) => opened,
         Err(refused) => {
             return ServedOver::Unserved(Served {
@@ -129,10 +123,16 @@ where
         opened.low,
         opened.next,
         opened.low_hand,
-        low_end,
+        parts.low_end,
         serving.key,
     );
-    let high = start_high(row, opened.high, opened.removed, opened.high_hand, high_end);
+    let high = start_high(
+        row,
+        opened.high,
+        opened.removed,
+        opened.high_hand,
+        parts.high_end,
+    );
     let ServedParts { ends, low, high } = serve_doors(
         rt, serving, low_side, high_side, low, high, tape,
     );

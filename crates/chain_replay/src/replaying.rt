@@ -84,12 +84,13 @@ pub fn replay_chain<S: Shelf, I: Source, O: Sink>(
         Ok(rows) => rows,
         Err(fault) => return stop(fault, out),
     };
-    let mut chain = match open(alloc, shelf, &one, &two) {
-        Ok(chain) => chain,
-        Err(None) => return Ended::Memory,
-        Err(Some(fault)) => return stop(fault, out),
-    };
-    let ended = run(&mut chain, one.id, &mut lines, &mut body, script, out);
-    leave(chain, one.id, two.id, shelf);
-    ended
+    match open(alloc, shelf, &one, &two) {
+        Ok(mut chain) => {
+            let ended = run(&mut chain, one.id, &mut lines, &mut body, script, out);
+            leave(chain, one.id, two.id, shelf);
+            ended
+        }
+        Err(None) => Ended::Memory,
+        Err(Some(fault)) => stop(fault, out),
+    }
 }

@@ -54,8 +54,8 @@ leave-requires-clause-first g c = are_out g.S.Disk.Disk.told (g.S.Shelf.told.dis
 pub leave-requires-clause-second : goal.leave-requires-clause-second
 leave-requires-clause-second g c = are_out g.S.Disk.Disk.told (g.S.Shelf.told.disk c.open.new.shelf) c.in-Ok.rows.1.id (trio_of c.in-Ok-open.chain.second) c.in-Ok-open.ensures.second_out
 
-pub returns-clause-ends : goal.returns-clause-ends
-returns-clause-ends g c = λ told tells.
+pub returns-in-Ok-open-clause-ends : goal.returns-in-Ok-open-clause-ends
+returns-in-Ok-open-clause-ends g c = λ told tells.
     let before = g.S.Shelf.told.disk c.args.shelf.now in
     let after = g.S.Shelf.told.disk c.leave.new.shelf in
     let all = g.I.Source.left c.args.script.now in
@@ -72,8 +72,8 @@ returns-clause-ends g c = λ told tells.
     all (g.I.Source.left c.run-ended.new.script) (g.O.Sink.written c.args.out.now) (g.O.Sink.written c.run-ended.new.out) (g.I.Source.faults c.args.script.now) (g.I.Source.faults c.read_rows.new.script) (g.I.Source.faults c.run-ended.new.script)
     c.read_rows.ensures.later c.run-ended.result (c.run-ended.ensures.ends tells j.openings all one two (chain_of j.openings one two) refl j.stands (refl, refl) read)
 
-pub returns-clause-back : goal.returns-clause-back
-returns-clause-back g c = λ told.
+pub returns-in-Ok-open-clause-back : goal.returns-in-Ok-open-clause-back
+returns-in-Ok-open-clause-back g c = λ told.
     let home = c.leave.ensures.home told in
     all_back (g.S.Shelf.told.disk c.args.shelf.now) (g.S.Shelf.told.disk c.leave.new.shelf) c.in-Ok.rows.0.id c.in-Ok.rows.1.id
     (others_more (g.S.Shelf.told.disk c.args.shelf.now) (g.S.Shelf.told.disk c.open.new.shelf) (g.S.Shelf.told.disk c.leave.new.shelf) _ _ c.open.ensures.others c.leave.ensures.others) home.0 home.1
@@ -90,8 +90,8 @@ returns-in-Err-Some-clause-device g c = λ session role e.
     c.in-Err-Some.fault-is c.stop-in-Err-Some.ensures in
     c.in-Err-Some.ensures.device c.in-Err-Some.fault c.in-Err-Some.field-0-is (subst IsDevice (sym (stopped_same _ _ _ _ _ c.in-Err-Some.fault _ c.stop-in-Err-Some.result closes e)) tt)
 
-pub returns-clause-device : goal.returns-clause-device
-returns-clause-device g c = λ session role e.
+pub returns-in-Ok-open-clause-device : goal.returns-in-Ok-open-clause-device
+returns-in-Ok-open-clause-device g c = λ session role e.
     let m = g.S.Disk.Disk.told in
     let out = g.S.Shelf.told.disk c.open.new.shelf in
     let first = g.S.Shelf.told.disk_faults c.args.shelf.now in

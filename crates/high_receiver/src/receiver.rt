@@ -25,7 +25,8 @@ impl<D: Disk> Receiver<D> {
     ghost use Rattle.stable_buffer.specs.Register.{IsReady, register_disk, register_value};
     ghost use Rattle.high_receiver.specs.Steps.{MayTake, TakesMessage, StandsOrTakes};
     ghost use Rattle.high_receiver.specs.LogReading.{IsReading, given_count};
-    ghost use Rattle.high_receiver.specs.Receiving.{HasWritten, IsRecordAt, IsRecvReady, KeepsLog, MayFill, StandsForSome, Stores};
+    ghost use Rattle.high_receiver.specs.Receiving.{HasWritten, IsRecordAt, IsRecvReady, KeepsLog, MayFill};
+    ghost use Rattle.high_receiver.specs.Receiving.{StandsForSome, Stores};
     ghost use Rattle.high_receiver.specs.Receiving.{answer_at_once, is_device, recv_disk, recv_count, recv_end};
     ghost use Rattle.high_receiver.specs.Receiving.{recv_row, recv_size, recv_made_coarse, recv_is_open};
 

@@ -8,8 +8,6 @@ use Rattle.pump_chain.specs.Standing.{ChainBreaks, ChainOverfills}
 use Rattle.pump_chain.specs.declared.not_chained.ChainWhy.{ChainWhy}
 use Rattle.pump_chain.specs.declared.not_chained.ChainWhy.TheVariants as reasons
 use Rattle.pump_frame.specs.Counts.{Rose}
-use Rattle.recovery.specs.Faults.{why_number, why_values}
-use Rattle.recovery.specs.declared.why.Why.{Why}
 use Rattle.script_reader.specs.declared.event.Event.{Event}
 use Rattle.script_reader.specs.declared.fault.Fault.{Fault}
 use Rattle.script_reader.specs.declared.fault.Fault.TheVariants as faults
@@ -70,10 +68,6 @@ NamesWhatFailed fails (faults.Device session role) = fails session role
 NamesWhatFailed fails fault = Unit {0}
 
 -- ---- two pumps that make no chain ----
-
--- the fault of a disk that is refused
-abbrev pub refusal_of : ℕ → Role → Why → Fault
-refusal_of session role why = faults.Disk session role (why_number why) (why_values why).0 (why_values why).1
 
 -- the fault of this cause: two pumps that are not linked are the second one's low disk's; none where memory was wanting
 abbrev pub chain_fault : ℕ → ChainWhy → Option Fault

@@ -1,6 +1,5 @@
 -- Words of private clauses.
 use Rattle.std.specs.Prelude.{◌≡◌, ◌⊎◌, ℕ, ◌+◌, List, [], ◌∷◌, ◌++◌, length, Option, None, Some}
-use Rattle.std.specs.Io.KnownBytes.{Appends}
 use Rattle.disk_model.specs.Disk.{Meaning}
 use Rattle.disk_model.specs.Shelf.{OnShelf, IsOut}
 use Rattle.disk_model.specs.declared.name.Role.{Role}
@@ -28,10 +27,10 @@ use Rattle.script_reader.specs.Readouts.{Sound}
 use Rattle.script_reader.specs.Scripts.{Running, Whole}
 use Rattle.script_reader.specs.Sessions.{events_of}
 use Rattle.script_replay.specs.Outputs.{Gathers}
-use Rattle.script_replay.specs.Runners.{IsLineFault}
+use Rattle.script_replay.specs.Runners.{refusal_of, IsLineFault}
 use Rattle.script_replay.specs.Shelves.{Places, disk_name, OfDisks, HasFound}
 use Rattle.world_laws.specs.Disks.{StandForLeft}
-use Rattle.chain_replay.specs.Faults.{IsHalted, ChainStops, NamesWhatFailed, session_or, broken_in, refusal_of}
+use Rattle.chain_replay.specs.Faults.{IsHalted, ChainStops, NamesWhatFailed, session_or, broken_in}
 use Rattle.chain_replay.specs.Opened.{Shelved, NamesFailed}
 use Rattle.chain_replay.specs.Replays.{IsSoFar}
 use Rattle.chain_replay.specs.Scripts.{Begun, Refuses, LacksPump, AreLinked}

@@ -11,13 +11,12 @@ ghost use Rattle.script_reader.specs.Heads.{line_with, CanHoldLine};
 ghost use Rattle.script_reader.specs.Lawful.{IsLawfulLine};
 ghost use Rattle.script_replay.specs.Outputs.{held_of};
 
-use crate::opening::refusal_of;
 use arrayvec::ArrayVec;
 use disk_model::{Disk, Role};
 use pump_chain::Chain;
 use pump_link::Sink;
 use script_reader::{Body, EventHead, Fault, LineHead, session_of};
-use script_replay::Output;
+use script_replay::{Output, refusal_of};
 use two_worlds::Stop;
 
 /// What became of a line of a chain.

@@ -1,7 +1,7 @@
 //! Two pumps are joined over the disks of a shelf.
 
 ghost use Rattle.std.specs.Prelude.{◌≡◌, ◌≤◌, false, None, Some, IfOk, IfErr};
-ghost use Rattle.chain_replay.specs.Faults.{chain_fault, refusal_of};
+ghost use Rattle.chain_replay.specs.Faults.{chain_fault};
 ghost use Rattle.chain_replay.specs.Opened.{LeavesOthers, AreReadied, NotChained};
 ghost use Rattle.chain_replay.specs.Private.{AreOutAt, IsDevice, IsOfLine, Joins};
 ghost use Rattle.chain_replay.specs.Scripts.{MayFollow};
@@ -11,41 +11,15 @@ ghost use Rattle.pump_chain.specs.Standing.{chain_is_down};
 ghost use Rattle.pump_frame.specs.Counts.{Rose};
 ghost use Rattle.pump_frame.specs.Rows.{IsLawfulRow};
 ghost use Rattle.script_replay.specs.Failing.{FailsAt};
-ghost use Rattle.script_replay.specs.Runners.{fault_of, IsLineFault};
 ghost use Rattle.script_replay.specs.Shelves.{AllAreBack};
 
 use crate::disks::{put_six_back, take_six};
 use disk_model::{Role, Shelf};
 use pump_chain::{Chain, ChainWhy};
 use pump_frame::SessionRow;
-use recovery::Why;
 use script_reader::Fault;
+use script_replay::fault_of;
 use std::alloc::Global;
-
-// The fault of a disk that is refused, or whose call failed.
-fn fault_of(session: u32, role: Role, why: &Why) -> Fault
-    ensures is { result ≡ fault_of session role why.now }
-    ensures line { IsLineFault result }
-{
-    if let Why::Device { .. } = why {
-        return Fault::Device { session, role };
-    }
-    refusal_of(session, role, why)
-}
-
-/// The fault of a disk that is refused.
-pub fn refusal_of(session: u32, role: Role, why: &Why) -> Fault
-    ensures { result ≡ refusal_of session role why.now }
-{
-    let (first, second) = why.values();
-    Fault::Disk {
-        session,
-        role,
-        number: why.number(),
-        first,
-        second,
-    }
-}
 
 // Of two pumps that make no chain the fault is that of the second one's low disk.
 fn unlinked(second: u32, number: u32, one: u64, two: u64) -> Fault

@@ -51,10 +51,14 @@ AreUp (Some session) = IsUp session
 abbrev pub AllAreUp : {D : Type 0} {g : _} → List (Session D g) → Type 0
 AllAreUp begun = (number : ℕ) → AreUp (found_at number begun)
 
--- the fault of a disk that is refused, or whose call failed
+-- the fault of a disk that is refused
+abbrev pub refusal_of : ℕ → Role → Why → Fault
+refusal_of id role why = faults.Disk id role (why_number why) (why_values why).0 (why_values why).1
+
+-- .. or whose call failed
 abbrev pub fault_of : ℕ → Role → Why → Fault
 fault_of id role (whys.Device count) = faults.Device id role
-fault_of id role why = faults.Disk id role (why_number why) (why_values why).0 (why_values why).1
+fault_of id role why = refusal_of id role why
 
 -- it is a disk's, or of a message that does not fit
 abbrev pub IsLineFault : Fault → Type 0

@@ -17,5 +17,6 @@ mod sessions;
 
 pub use disks::{NotTaken, TakenDisks, put_disk_back, put_disks_back, take_disk, take_disks};
 pub use ended::Ended;
+pub use outcome::{fault_of, refusal_of};
 pub use output::Output;
 pub use replaying::replay;

@@ -1,8 +1,7 @@
 //! What becomes of a line of a script.
 
 ghost use Rattle.std.specs.Prelude.{◌≡◌, Some};
-ghost use Rattle.recovery.specs.Faults.{why_number, why_values};
-ghost use Rattle.script_replay.specs.Runners.{fault_of, outcome_of, outcome_at, IsLineFault, StopsByLine};
+ghost use Rattle.script_replay.specs.Runners.{fault_of, outcome_of, outcome_at, refusal_of, IsLineFault, StopsByLine};
 
 use crate::disks::NotTaken;
 use disk_model::{Role, ShelfFault};
@@ -21,10 +20,10 @@ pub enum Outcome {
     Unwritten,
 }
 
-// The fault of a disk that is refused.
-fn refusal_of(session: u32, role: Role, why: &Why) -> Fault
+/// The fault of a disk that is refused.
+pub fn refusal_of(session: u32, role: Role, why: &Why) -> Fault
     ensures line { IsLineFault result }
-    ensures is { result ≡ Fault.Disk session role (why_number why.now) (why_values why.now).0 (why_values why.now).1 }
+    ensures is { result ≡ refusal_of session role why.now }
 {
     let (first, second) = why.values();
     Fault::Disk {
@@ -36,8 +35,8 @@ fn refusal_of(session: u32, role: Role, why: &Why) -> Fault
     }
 }
 
-// .. or whose call failed.
-fn fault_of(session: u32, role: Role, why: &Why) -> Fault
+/// The fault of a disk that is refused, or whose call failed.
+pub fn fault_of(session: u32, role: Role, why: &Why) -> Fault
     ensures line { IsLineFault result }
     ensures is { result ≡ fault_of session role why.now }
 {

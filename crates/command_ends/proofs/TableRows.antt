@@ -56,7 +56,7 @@ row_read (Some bytes) old new slice n session answer reads size few is given =
 pub stops_at_table : (file : Option (List ℕ)) (session : ℕ) (end : CommandEnd) → IsTableEnd end → IsRowOf file session (Err end) → StopsAtTable file session end
 stops_at_table file session Memory only row = tt
 stops_at_table file session Unread only row = tt
-stops_at_table file session (NoRow number at) only row = row
+stops_at_table file session (NoRow why) only row = row
 stops_at_table file session end only row = absurd only
 
 pub stops_at_file : (file : Option (List ℕ)) (faults now_faults session : ℕ) (end : CommandEnd) → IsTableEnd end → IsRowOf file session (Err end)

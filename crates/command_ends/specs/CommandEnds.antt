@@ -7,6 +7,7 @@ use Rattle.pump_link.specs.Causes.{AppendsPrefix}
 use Rattle.recovery.specs.Faults.{why_number, why_values}
 use Rattle.script_reader.specs.Transcript.{fault_line, line_with_end}
 use Rattle.script_reader.specs.declared.fault.Fault.TheVariants as faults
+use Rattle.command_ends.specs.NoRows.{table_line}
 use Rattle.command_ends.specs.declared.command_end.CommandEnd.{CommandEnd}
 use Rattle.command_ends.specs.declared.command_end.CommandEnd.TheVariants.{Done, Memory, Unread, BadLine, NoRow, Failed}
 use Rattle.command_ends.specs.declared.command_end.CommandEnd.TheVariants.{Refused, Unconnected, Ahead, Full, Denied}
@@ -18,7 +19,7 @@ end_status Memory = 1
 end_status Unread = 3
 end_status Unwritten = 4
 end_status (BadLine line) = 5
-end_status (NoRow number row) = 6
+end_status (NoRow why) = 6
 end_status (Failed role) = 7
 end_status (Refused role why) = 8
 end_status Unconnected = 9
@@ -27,10 +28,6 @@ end_status (Full end length size) = 10
 end_status (Denied code number) = 11
 end_status (Unfinished number) = 12
 
--- the fault of a table that gives no row: a number for the cause, and the row of the table
-abbrev pub table_line : ℕ → ℕ → List ℕ
-table_line number row = line_with_end (codes "fault" ∷ codes "table" ∷ decimal number ∷ decimal row ∷ [])
-
 -- the fault that is written, if there is one
 abbrev pub end_line : ℕ → CommandEnd → List ℕ
 end_line session Done = []
@@ -38,7 +35,7 @@ end_line session Memory = []
 end_line session Unread = fault_line faults.Read
 end_line session Unwritten = []
 end_line session (BadLine line) = fault_line (faults.Script line)
-end_line session (NoRow number row) = table_line number row
+end_line session (NoRow why) = table_line why
 end_line session (Failed role) = fault_line (faults.Device session role)
 end_line session (Refused role why) = fault_line (faults.Disk session role (why_number why) (why_values why).0
     (why_values why).1)

@@ -1,3 +1,4 @@
 pub mod Causes
 pub mod CommandEnds
+pub mod NoRows
 pub mod Tables

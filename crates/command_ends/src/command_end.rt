@@ -6,7 +6,9 @@ ghost use Rattle.pump_frame.specs.Counts.{Rose};
 ghost use Rattle.recovery.specs.Faults.{why_number, why_values};
 ghost use Rattle.script_reader.specs.declared.fault.Fault.TheVariants as faults;
 ghost use Rattle.command_ends.specs.CommandEnds.{end_status, end_line, ClosesSo, Closes, TellsWords};
+ghost use Rattle.command_ends.specs.NoRows.{table_line};
 
+use crate::NoRow;
 use arrayvec::ArrayVec;
 use disk_model::Role;
 use pump_link::{Sink, write_all};
@@ -23,9 +25,8 @@ pub enum CommandEnd {
     Unread,
     /// The line of the script with this number, counted from 1, is no message.
     BadLine { line: u32 },
-    /// The session has no row: the number of the cause, and the row of the table that it is in; see
-    /// `docs/formats.md`, "Statuses and fault lines".
-    NoRow { number: u32, row: u32 },
+    /// The session has no row, or none that will do.
+    NoRow(NoRow),
     /// The disk could not be taken off the shelf, or a call of it failed.
     Failed { role: Role },
     /// The disk is refused.
@@ -56,7 +57,7 @@ impl CommandEnd {
             CommandEnd::Unread => 3,
             CommandEnd::Unwritten => 4,
             CommandEnd::BadLine { .. } => 5,
-            CommandEnd::NoRow { .. } => 6,
+            CommandEnd::NoRow(_) => 6,
             CommandEnd::Failed { .. } => 7,
             CommandEnd::Refused { .. } => 8,
             CommandEnd::Unconnected => 9,
@@ -136,6 +137,15 @@ fn refusal(session: u32, role: Role, why: Why) -> Fault
     }
 }
 
+fn put_no_row(why: NoRow, into: &mut ArrayVec<u8, 256>)
+    requires { into.old.items ≡ [] }
+    ensures { into.new.items ≡ table_line why }
+{
+    let number = why.number();
+    let row = why.row();
+    put_two(into, b"fault table", u64::from(number), u64::from(row));
+}
+
 /// Puts the fault that is written at this end, if there is one, into an empty room.
 pub fn put_end(session: u32, end: &CommandEnd, into: &mut ArrayVec<u8, 256>)
     requires { into.old.items ≡ [] }
@@ -145,9 +155,7 @@ pub fn put_end(session: u32, end: &CommandEnd, into: &mut ArrayVec<u8, 256>)
         CommandEnd::Done | CommandEnd::Memory | CommandEnd::Unwritten => {}
         CommandEnd::Unread => append_fault(&Fault::Read, into),
         CommandEnd::BadLine { line } => append_fault(&Fault::Script { line }, into),
-        CommandEnd::NoRow { number, row } => {
-            put_two(into, b"fault table", u64::from(number), u64::from(row));
-        }
+        CommandEnd::NoRow(why) => put_no_row(why, into),
         CommandEnd::Failed { role } => append_fault(&Fault::Device { session, role }, into),
         CommandEnd::Refused { role, why } => append_fault(&refusal(session, role, why), into),
         CommandEnd::Unconnected => put(into, b"fault link\n"),

@@ -7,7 +7,7 @@ ghost use Rattle.session_table.specs.Documents.{table_of};
 ghost use Rattle.command_ends.specs.Tables.{row_among, IsRowIn, IsRowOf, IsTableEnd};
 ghost use Rattle.command_ends.specs.declared.command_end.CommandEnd.TheVariants as ends;
 
-use crate::CommandEnd;
+use crate::{CommandEnd, NoRow};
 use disk_model::{Shelf, ShelfFault};
 use pump_frame::SessionRow;
 use session_table::{Table, TableFault};
@@ -31,15 +31,11 @@ fn row_among(alloc: Global, bytes: &[u8], session: u32) -> Result<SessionRow, Co
     ensures id { IfOk result (λ row. row.id ≡ session) }
 {
     match Table::read(alloc, bytes) {
-        Ok(table) => table.row(session).ok_or(CommandEnd::NoRow {
-            number: 11,
-            row: session,
-        }),
+        Ok(table) => table
+            .row(session)
+            .ok_or(CommandEnd::NoRow(NoRow::Absent { session })),
         Err(TableFault::Memory) => Err(CommandEnd::Memory),
-        Err(fault) => Err(CommandEnd::NoRow {
-            number: fault.number(),
-            row: fault.row(),
-        }),
+        Err(fault) => Err(CommandEnd::NoRow(NoRow::Refused(fault))),
     }
 }
 
@@ -65,7 +61,7 @@ fn row_over<S: Shelf>(
     match shelf.whole(name, room) {
         Ok(length) => {
             if length > MOST as u64 {
-                return Err(CommandEnd::NoRow { number: 10, row: 0 });
+                return Err(CommandEnd::NoRow(NoRow::TooLong));
             }
             row_among(alloc, &room[..length as usize], session)
         }

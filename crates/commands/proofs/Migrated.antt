@@ -22,6 +22,8 @@ use Rattle.command_ends.specs.Tables.{HasRow, IsTableEnd}
 use Rattle.commands.specs.TakenDisks.{AreReadAt, AreOutAt, RiseAt, RoseAt, ReadOn, SpareOn}
 use Rattle.command_ends.specs.declared.command_end.CommandEnd.{CommandEnd}
 use Rattle.command_ends.specs.declared.command_end.CommandEnd.TheVariants.{Memory, Unread, NoRow, Failed, Refused}
+use Rattle.command_ends.specs.declared.no_row.NoRow.{NoRow as NoRowCause}
+use Rattle.command_ends.specs.declared.no_row.NoRow.TheVariants.{Same}
 use Rattle.commands.specs.declared.migrate.Counts.{Counts}
 use Rattle.commands.specs.declared.migrate.Halt.{Halt}
 use Rattle.recovery.specs.Calls.{is_device}
@@ -234,20 +236,19 @@ halts_to file new_file before after fails session new_session row new_row is_new
 
 -- .. and where they give none
 pub rowless_so : (file new_file : Option (List ℕ)) (before after : Places) (fails : ℕ → Role → Type 0) (session new_session : ℕ) (end : CommandEnd) → IsTableEnd end
-    → ((number place : ℕ) → end ≡ NoRow number place → HasNoRows file new_file session new_session number place) → after ≡ before
+    → ((why : NoRowCause) → end ≡ NoRow why → HasNoRows file new_file session new_session why) → after ≡ before
     → MigratesSo file new_file before after fails session new_session (Err (record { session = session; end = end }))
 rowless_so file new_file before after fails session new_session Memory only none same = ((λ name. ap (λ (p : Places). reading_in (p name)) same), refl)
 rowless_so file new_file before after fails session new_session Unread only none same = (same, refl)
-rowless_so file new_file before after fails session new_session (NoRow number place) only none same = (none number place refl, same, refl)
+rowless_so file new_file before after fails session new_session (NoRow why) only none same = (none why refl, same, refl)
 rowless_so file new_file before after fails session new_session end only none same = absurd only
 
 -- both tables have a row, for one session
 pub same_session : {T : Type 0} (file new_file : Option (List ℕ)) (session new_session : ℕ) (row new_row : SessionRow) → HasRow file session row → HasRow new_file new_session new_row → session ≡ new_session
-    → (number place : ℕ) → (let r : Result T CommandEnd = Err (NoRow 13 new_session) in r ≡ Err (NoRow number place)) → HasNoRows file new_file session new_session number place
-same_session file new_file session new_session row new_row has has_new same number place is =
-    let number_is : 13 ≡ number = cc in
-    let place_is : new_session ≡ place = cc in
-    inr (inr (row, new_row, has, has_new, same, sym number_is, sym place_is))
+    → (why : NoRowCause) → (let r : Result T CommandEnd = Err (NoRow (Same new_session)) in r ≡ Err (NoRow why)) → HasNoRows file new_file session new_session why
+same_session file new_file session new_session row new_row has has_new same why is =
+    let why_is : Same new_session ≡ why = cc in
+    inr (inr (row, new_row, has, has_new, same, sym why_is))
 
 -- what the rows lead to is what the two tables' files give
 pub migrates_so : (told tells : Type 0) (file new_file : Option (List ℕ)) (before mid after : Places) (fails : ℕ → Role → Type 0) (session new_session : ℕ) (row new_row : SessionRow) (r : Result Counts Halt)

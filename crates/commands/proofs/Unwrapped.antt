@@ -40,7 +40,7 @@ gather_status (Err Write) = inl (omega arith)
 pub table_status : (end : CommandEnd) → IsTableEnd end → IsUnwrapStatus (end_status end)
 table_status Memory is = inl (omega arith)
 table_status Unread is = inl (omega arith)
-table_status (NoRow number row) is = inl (omega arith)
+table_status (NoRow why) is = inl (omega arith)
 table_status end is = absurd is
 
 -- the messages of an open receiver were gathered

@@ -121,7 +121,7 @@ wrap_status (answers.Stopped (stops.Disk role why)) = inl (omega arith)
 pub table_status : (end : CommandEnd) → IsTableEnd end → IsSendStatus (end_status end)
 table_status Memory h = inl (omega arith)
 table_status Unread h = inl (omega arith)
-table_status (NoRow number row) h = inl (omega arith)
+table_status (NoRow why) h = inl (omega arith)
 table_status end h = absurd h
 
 -- ---- a disk that failed ----

@@ -53,8 +53,8 @@ Formats file before after fails session Done output = (row : SessionRow) × HasR
     × IsFormatted before after row × (output ≡ formatted_line session)
 Formats file before after fails session Memory output = IsSpared before after session × (output ≡ [])
 Formats file before after fails session Unread output = (after ≡ before) × (output ≡ end_line session Unread)
-Formats file before after fails session (NoRow number row) output = HasNoRow file session number row × (after ≡ before)
-    × (output ≡ end_line session (NoRow number row))
+Formats file before after fails session (NoRow why) output = HasNoRow file session why × (after ≡ before)
+    × (output ≡ end_line session (NoRow why))
 Formats file before after fails session (Failed role) output = (row : SessionRow) × HasRow file session row
     × fails session role × FormatStops before after row (Failed role) × (output ≡ end_line session (Failed role))
 Formats file before after fails session (Refused role why) output = (row : SessionRow) × HasRow file session row

@@ -12,7 +12,7 @@ use Rattle.script_reader.specs.Transcript.{line_with_end}
 use Rattle.stable_buffer.specs.Format.{receiver_size}
 use Rattle.stable_buffer.specs.Log.{RecvStands}
 use Rattle.command_ends.specs.CommandEnds.{end_line}
-use Rattle.commands.specs.ReadDisks.{disk_file, IsReadOf}
+use Rattle.commands.specs.ReadDisks.{IsReadOf}
 use Rattle.command_ends.specs.Tables.{HasRow, HasNoRow}
 use Rattle.command_ends.specs.declared.command_end.CommandEnd.{CommandEnd}
 use Rattle.command_ends.specs.declared.command_end.CommandEnd.TheVariants.{Done, Memory, Unread, NoRow, Failed, Refused}
@@ -48,8 +48,8 @@ PrintsMessages table file session from Done output =
     × (output ≡ message_lines session from (drop from messages))
 PrintsMessages table file session from Memory output = output ≡ []
 PrintsMessages table file session from Unread output = output ≡ end_line session Unread
-PrintsMessages table file session from (NoRow number row) output = HasNoRow table session number row
-    × (output ≡ end_line session (NoRow number row))
+PrintsMessages table file session from (NoRow why) output = HasNoRow table session why
+    × (output ≡ end_line session (NoRow why))
 PrintsMessages table file session from (Failed Recv) output = (row : SessionRow) × HasRow table session row
     × (output ≡ end_line session (Failed Recv))
 PrintsMessages table file session from (Refused role why) output =

@@ -18,12 +18,15 @@ use Rattle.script_replay.specs.Shelves.{Places, OfDisks, reading_at, reading_in,
 use Rattle.script_replay.specs.declared.disks.TakenDisks.{TakenDisks}
 use Rattle.stable_buffer.specs.Format.{receiver_size}
 use Rattle.two_worlds.specs.Openings.{StandForFound}
-use Rattle.command_ends.specs.CommandEnds.{end_line, table_line}
+use Rattle.command_ends.specs.CommandEnds.{end_line}
+use Rattle.command_ends.specs.NoRows.{table_line}
 use Rattle.commands.specs.Showing.{end_at}
 use Rattle.command_ends.specs.Tables.{HasRow, HasNoRow}
 use Rattle.commands.specs.TakenDisks.{RoseAt, ReadOn}
 use Rattle.command_ends.specs.declared.command_end.CommandEnd.{CommandEnd}
 use Rattle.command_ends.specs.declared.command_end.CommandEnd.TheVariants.{Done, Memory, Unread, NoRow, Failed, Refused}
+use Rattle.command_ends.specs.declared.no_row.NoRow.{NoRow as NoRowCause}
+use Rattle.command_ends.specs.declared.no_row.NoRow.TheVariants.{Same}
 use Rattle.commands.specs.declared.migrate.Counts.{Counts}
 use Rattle.commands.specs.declared.migrate.Halt.{Halt}
 
@@ -37,13 +40,13 @@ pub record AreRows (file new_file : Option (List ℕ)) (session new_session : �
   pub new_id : new_row.id ≡ new_session
   pub two : session ≡ new_session → ⊥
 
--- the first that gives none, with these numbers in the fault line; or both do, for one session
-abbrev pub HasNoRows : Option (List ℕ) → Option (List ℕ) → ℕ → ℕ → ℕ → ℕ → Type 0
-HasNoRows file new_file session new_session number place =
-    HasNoRow file session number place
-    ⊎ (((row : SessionRow) × HasRow file session row × HasNoRow new_file new_session number place)
+-- the first that gives none, for this cause; or both do, for one session
+abbrev pub HasNoRows : Option (List ℕ) → Option (List ℕ) → ℕ → ℕ → NoRowCause → Type 0
+HasNoRows file new_file session new_session why =
+    HasNoRow file session why
+    ⊎ (((row : SessionRow) × HasRow file session row × HasNoRow new_file new_session why)
     ⊎ ((row : SessionRow) × (new_row : SessionRow) × HasRow file session row × HasRow new_file new_session new_row
-    × (session ≡ new_session) × (number ≡ 13) × (place ≡ new_session)))
+    × (session ≡ new_session) × (why ≡ Same new_session)))
 
 -- ---- the disks ----
 
@@ -132,8 +135,8 @@ Migrates file new_file before after fails session new_session Done output =
 Migrates file new_file before after fails session new_session Memory output = ReadsAlike before after × (output ≡ [])
 Migrates file new_file before after fails session new_session Unread output = (after ≡ before)
     × (output ≡ end_line session Unread)
-Migrates file new_file before after fails session new_session (NoRow number place) output =
-    HasNoRows file new_file session new_session number place × (after ≡ before) × (output ≡ table_line number place)
+Migrates file new_file before after fails session new_session (NoRow why) output =
+    HasNoRows file new_file session new_session why × (after ≡ before) × (output ≡ table_line why)
 Migrates file new_file before after fails session new_session (Failed role) output = StopsSo file new_file before after
     (λ named. fails named role) session new_session (Failed role) output
 Migrates file new_file before after fails session new_session (Refused role why) output = StopsSo file new_file before

@@ -60,8 +60,8 @@ Shows file before after fails session Done output = (row : SessionRow) × HasRow
     × IsShown before after row output
 Shows file before after fails session Memory output = ReadsAlike before after × (output ≡ [])
 Shows file before after fails session Unread output = (after ≡ before) × (output ≡ end_line session Unread)
-Shows file before after fails session (NoRow number row) output = HasNoRow file session number row × (after ≡ before)
-    × (output ≡ end_line session (NoRow number row))
+Shows file before after fails session (NoRow why) output = HasNoRow file session why × (after ≡ before)
+    × (output ≡ end_line session (NoRow why))
 Shows file before after fails session (Failed role) output = (row : SessionRow) × HasRow file session row
     × fails session role × ShowStops before after row (Failed role) × (output ≡ end_line session (Failed role))
 Shows file before after fails session (Refused role why) output = (row : SessionRow) × HasRow file session row

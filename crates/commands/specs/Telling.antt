@@ -59,8 +59,8 @@ TellsStatus table files unread session Done output = (row : SessionRow) × HasRo
     × ReadTo files unread (IsToldLine row session output)
 TellsStatus table files unread session Memory output = output ≡ []
 TellsStatus table files unread session Unread output = output ≡ end_line session Unread
-TellsStatus table files unread session (NoRow number row) output = HasNoRow table session number row
-    × (output ≡ end_line session (NoRow number row))
+TellsStatus table files unread session (NoRow why) output = HasNoRow table session why
+    × (output ≡ end_line session (NoRow why))
 TellsStatus table files unread session (Failed role) output = (row : SessionRow) × HasRow table session row
     × IsUnreadFile files role × (output ≡ end_line session (Failed role))
 TellsStatus table files unread session (Refused role why) output =

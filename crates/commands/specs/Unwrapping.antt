@@ -17,6 +17,7 @@ use Rattle.command_ends.specs.Tables.{StopsAtTable, HasRow}
 use Rattle.commands.specs.LentDisks.{StopsAtDisk}
 use Rattle.command_ends.specs.declared.command_end.CommandEnd.{CommandEnd}
 use Rattle.command_ends.specs.declared.command_end.CommandEnd.TheVariants.{NoRow, Failed, Unwritten}
+use Rattle.command_ends.specs.declared.no_row.NoRow.TheVariants.{Short}
 use Rattle.commands.specs.declared.unwrap.UnwrapEnd.{UnwrapEnd}
 use Rattle.commands.specs.declared.unwrap.UnwrapEnd.TheVariants.{Whole, Unfinished, NotWrapped, Stopped}
 
@@ -49,7 +50,7 @@ UnwrapsOn row found old new end =
 -- the row's messages are too short for a length
 abbrev pub UnwrapsFrom : SessionRow → List ℕ → Option (List ℕ) → Option (List ℕ) → UnwrapEnd → Type 0
 UnwrapsFrom row found old new end =
-    ((row.message < 9) × (end ≡ Stopped (NoRow 12 row.id)) × Appends old new [])
+    ((row.message < 9) × (end ≡ Stopped (NoRow (Short row.id))) × Appends old new [])
     ⊎ ((9 ≤ row.message) × UnwrapsOn row found old new end)
 
 -- the disk that the end names failed, where `fails` says which did

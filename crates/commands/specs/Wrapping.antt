@@ -27,6 +27,7 @@ use Rattle.commands.specs.Showing.{end_at}
 use Rattle.command_ends.specs.Tables.{HasRow, StopsAtFile}
 use Rattle.command_ends.specs.declared.command_end.CommandEnd.{CommandEnd}
 use Rattle.command_ends.specs.declared.command_end.CommandEnd.TheVariants.{Memory, Unread, BadLine, NoRow, Failed}
+use Rattle.command_ends.specs.declared.no_row.NoRow.TheVariants.{Short}
 use Rattle.command_ends.specs.declared.command_end.CommandEnd.TheVariants.{Refused, Full, Unwritten}
 use Rattle.commands.specs.declared.wrap.SendEnd.{SendEnd}
 use Rattle.commands.specs.declared.wrap.SendEnd.TheVariants.{Sent, Differs, TooLong, Stopped}
@@ -138,7 +139,7 @@ WrapsOn before after row left now_left end =
 -- the row's messages are too short for a length
 abbrev pub WrapsFrom : Places → Places → SessionRow → Option (List ℕ) → Option (List ℕ) → SendEnd → Type 0
 WrapsFrom before after row left now_left end =
-    ((row.message < 9) × (end ≡ Stopped (NoRow 12 row.id)) × (after ≡ before))
+    ((row.message < 9) × (end ≡ Stopped (NoRow (Short row.id))) × (after ≡ before))
     ⊎ ((9 ≤ row.message) × WrapsOn before after row left now_left end)
 
 -- with the row of the session, if the table has one; `file` is the table's, `faults` and `now_faults` count the

@@ -1,6 +1,6 @@
 //! What a session's disks stand for is written on the disks of another session.
 
-ghost use Rattle.std.specs.Prelude.{◌≡◌, ◌≤◌, [], ℕ, Bool, IfOk, IfErr, Err};
+ghost use Rattle.std.specs.Prelude.{◌≡◌, ◌≤◌, [], Bool, IfOk, IfErr, Err};
 ghost use Rattle.disk_model.specs.Shelf.{IsOut};
 ghost use Rattle.disk_model.specs.declared.name.Role.{Role as DiskRole};
 ghost use Rattle.pump_frame.specs.Counts.{Rose};
@@ -17,11 +17,12 @@ ghost use Rattle.commands.specs.Migrating.{HaltsSo, IsUntaken, counted, counted_
 ghost use Rattle.commands.specs.Migrating.{trio_of};
 ghost use Rattle.commands.specs.TakenDisks.{AreReadAt, AreOutAt, RiseAt, CountOn, ReadOn, SpareOn};
 ghost use Rattle.command_ends.specs.declared.command_end.CommandEnd.TheVariants as ends;
+ghost use Rattle.command_ends.specs.declared.no_row.NoRow.{NoRow as NoRowCause};
 
 use crate::format::untaken;
 use crate::show::end_at;
 use arrayvec::ArrayVec;
-use command_ends::{CommandEnd, close, fail, put, put_number, row_in_file};
+use command_ends::{CommandEnd, NoRow, close, fail, put, put_number, row_in_file};
 use command_line::TableName;
 use disk_model::{Disk, Shelf};
 use pump_frame::SessionRow;
@@ -80,9 +81,8 @@ fn rows_in_files<S: Shelf>(
     ensures rows { IfOk result (λ rows. S.told.tells
         → AreRows (S.told.file shelf.old table.now) (S.told.file shelf.old new_table.now) session new_session rows.row
         rows.new_row) }
-    ensures none { (number place : ℕ) → result ≡ Err (ends.NoRow number place) → S.told.tells
-        → HasNoRows (S.told.file shelf.old table.now) (S.told.file shelf.old new_table.now) session new_session number
-        place }
+    ensures none { (why : NoRowCause) → result ≡ Err (ends.NoRow why) → S.told.tells
+        → HasNoRows (S.told.file shelf.old table.now) (S.told.file shelf.old new_table.now) session new_session why }
     ensures lawful { IfOk result (λ rows. IsLawfulRow rows.row × IsLawfulRow rows.new_row) }
     ensures ids { IfOk result (λ rows. (rows.row.id ≡ session) × (rows.new_row.id ≡ new_session)
         × (session ≡ new_session → ⊥)) }
@@ -94,10 +94,9 @@ fn rows_in_files<S: Shelf>(
     let row = row_in_file(alloc, shelf, table.as_str(), session)?;
     let new_row = row_in_file(alloc, shelf, new_table.as_str(), new_session)?;
     if session == new_session {
-        return Err(CommandEnd::NoRow {
-            number: 13,
-            row: new_session,
-        });
+        return Err(CommandEnd::NoRow(NoRow::Same {
+            session: new_session,
+        }));
     }
     Ok(RowPair { row, new_row })
 }

@@ -14,7 +14,7 @@ ghost use Rattle.commands.specs.declared.unwrap.UnwrapEnd.TheVariants.{Stopped};
 
 use crate::format::untaken;
 use crate::show::end_at;
-use command_ends::{CommandEnd, row_in_file};
+use command_ends::{CommandEnd, NoRow, row_in_file};
 use command_line::TableName;
 use disk_model::{Disk, Role, Shelf};
 use pump_frame::SessionRow;
@@ -127,10 +127,7 @@ fn unwrap_row<S: Shelf, O: Sink>(row: &SessionRow, shelf: &mut S, out: &mut O) -
 {
     if row.message < 9 {
         return UnwrapEnd::Stopped {
-            end: CommandEnd::NoRow {
-                number: 12,
-                row: row.id,
-            },
+            end: CommandEnd::NoRow(NoRow::Short { session: row.id }),
         };
     }
     let disk = match take_disk(shelf, row.id, Role::Recv) {

@@ -15,7 +15,7 @@ ghost use Rattle.commands.specs.declared.wrap.SendEnd.TheVariants.{Stopped};
 use crate::format::untaken;
 use crate::show::end_at;
 use arrayvec::ArrayVec;
-use command_ends::{CommandEnd, put, put_end, put_three, put_two, row_in_file};
+use command_ends::{CommandEnd, NoRow, put, put_end, put_three, put_two, row_in_file};
 use command_line::TableName;
 use disk_model::Shelf;
 use pump_frame::SessionRow;
@@ -138,10 +138,7 @@ fn wrap_row<S: Shelf, I: Source>(
 {
     if row.message < 9 {
         return SendEnd::Stopped {
-            end: CommandEnd::NoRow {
-                number: 12,
-                row: row.id,
-            },
+            end: CommandEnd::NoRow(NoRow::Short { session: row.id }),
         };
     }
     wrap_disks(alloc, row, shelf, file)

@@ -99,14 +99,14 @@ module _ (old mid new : Option (List ℕ)) (first before now session status : �
 table_caused : (Read : Type 0) (end : CommandEnd) → IsTableEnd end → (end ≡ Unread → Read) → IsCaused (record { memory = Unit; read = Read; unwritten = ⊥; device = λ role. ⊥; link = ⊥ }) end
 table_caused Read Memory only read = tt
 table_caused Read Unread only read = read refl
-table_caused Read (NoRow number row) only read = tt
+table_caused Read (NoRow why) only read = tt
 table_caused Read end only read = absurd only
 
 -- .. and names no disk
 pub table_named : (fails : ℕ → Role → Type 0) (session : ℕ) (end : CommandEnd) → IsTableEnd end → NamesFailed fails session end
 table_named fails session Memory only = tt
 table_named fails session Unread only = tt
-table_named fails session (NoRow number row) only = tt
+table_named fails session (NoRow why) only = tt
 table_named fails session end only = absurd only
 
 pub table_status : (old new : Option (List ℕ)) (before now session status : ℕ) (end : CommandEnd) → before ≤ now → Closes old new session end status → (status ≡ end_status end) ⊎ ((status ≡ 4) × Rose before now)

@@ -22,6 +22,7 @@ use Rattle.file_peers.specs.declared.collect.CollectEnd.TheVariants as party
 use Rattle.command_ends.specs.Tables.{StopsAtFile, HasRow}
 use Rattle.command_ends.specs.declared.command_end.CommandEnd.{CommandEnd}
 use Rattle.command_ends.specs.declared.command_end.CommandEnd.TheVariants.{Done, Unwritten, Unconnected, Ahead, NoRow}
+use Rattle.command_ends.specs.declared.no_row.NoRow.TheVariants.{Short}
 use Rattle.transfer.specs.declared.ending.TransferEnd.{TransferEnd}
 use Rattle.transfer.specs.declared.ending.TransferEnd.TheVariants.{Command, Folder, NameTaken, Register}
 
@@ -105,7 +106,7 @@ module _ {I D L X : Type 0} (t : LinkTells L) (mi : Placing I) (md : Meaning D) 
   abbrev pub CollectsFor : {O : Type 0} → (List (FoldersStep I O) → Type 0) → (List (FoldersStep I O) → Type 0) → List ℕ
       → SessionRow → TransferEnd → Option (List ℕ) → ℕ → Type 0
   CollectsFor did now_did folder row end mid mid_faults =
-      ((row.message < 138) × (end ≡ Command (NoRow 12 row.id)) × Grows did now_did [] × Grows ports now_ports []
+      ((row.message < 138) × (end ≡ Command (NoRow (Short row.id))) × Grows did now_did [] × Grows ports now_ports []
       × (mid ≡ written))
       ⊎ (((138 ≤ row.message) × (end ≡ Folder) × Grows did now_did (NoInbox folder row.id ∷ [])
       × Grows ports now_ports [] × (mid ≡ written))

@@ -19,6 +19,7 @@ use Rattle.file_peers.specs.declared.drop.DropEnd.TheVariants as party
 use Rattle.command_ends.specs.Tables.{StopsAtFile, HasRow}
 use Rattle.command_ends.specs.declared.command_end.CommandEnd.{CommandEnd}
 use Rattle.command_ends.specs.declared.command_end.CommandEnd.TheVariants.{Done, Unwritten, Unconnected, NoRow, Denied}
+use Rattle.command_ends.specs.declared.no_row.NoRow.TheVariants.{Short}
 use Rattle.command_ends.specs.declared.command_end.CommandEnd.TheVariants.{Unfinished}
 use Rattle.transfer.specs.declared.ending.TransferEnd.{TransferEnd}
 use Rattle.transfer.specs.declared.ending.TransferEnd.TheVariants.{Command, Folder, Marks, Step, TooLong}
@@ -87,7 +88,7 @@ module _ {O F L X : Type 0} (t : LinkTells L) (m : DroppingTells O) (left : F �
   abbrev pub DropsFor : {I : Type 0} → (List (FoldersStep I O) → Type 0) → (List (FoldersStep I O) → Type 0) → List ℕ
       → SessionRow → TransferEnd → Option (List ℕ) → ℕ → Type 0
   DropsFor did now_did folder row end mid mid_faults =
-      ((row.message < 138) × (end ≡ Command (NoRow 12 row.id)) × Grows did now_did [] × Grows ports now_ports []
+      ((row.message < 138) × (end ≡ Command (NoRow (Short row.id))) × Grows did now_did [] × Grows ports now_ports []
       × (mid ≡ written))
       ⊎ (((138 ≤ row.message) × (end ≡ Folder) × Grows did now_did (NoOutbox folder row.id ∷ [])
       × Grows ports now_ports [] × (mid ≡ written))

@@ -16,7 +16,7 @@ ghost use Rattle.transfer.specs.Ends.{EndsTransfer, IsTransferCaused};
 use crate::ending::{TransferEnd, finish};
 use crate::errand::{Errand, LEAST_MESSAGE};
 use arrayvec::ArrayVec;
-use command_ends::{CommandEnd, put, put_number, row_in_file};
+use command_ends::{CommandEnd, NoRow, put, put_number, row_in_file};
 use command_line::TableName;
 use disk_model::Shelf;
 use file_collector::{CollectFault, Collector};
@@ -189,10 +189,7 @@ where
     ensures later { O.faults out.old ≤ O.faults out.new }
 {
     if row.message < LEAST_MESSAGE {
-        return TransferEnd::Command(CommandEnd::NoRow {
-            number: 12,
-            row: row.id,
-        });
+        return TransferEnd::Command(CommandEnd::NoRow(NoRow::Short { session: row.id }));
     }
     let inbox = match folders.inbox(errand.folder.as_str(), row.id) {
         Ok(inbox) => inbox,

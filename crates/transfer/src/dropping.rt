@@ -11,7 +11,7 @@ ghost use Rattle.transfer.specs.Ends.{EndsTransfer, IsTransferCaused};
 
 use crate::ending::{TransferEnd, finish};
 use crate::errand::{Errand, LEAST_MESSAGE};
-use command_ends::{CommandEnd, row_in_file};
+use command_ends::{CommandEnd, NoRow, row_in_file};
 use disk_model::Shelf;
 use file_dropper::{DropFault, Dropper};
 use file_peers::{DropEnd, drop_with};
@@ -119,10 +119,7 @@ fn drop_for<F: Folders, P: Ports, O: Sink>(
     ensures later { O.faults out.old ≤ O.faults out.new }
 {
     if row.message < LEAST_MESSAGE {
-        return TransferEnd::Command(CommandEnd::NoRow {
-            number: 12,
-            row: row.id,
-        });
+        return TransferEnd::Command(CommandEnd::NoRow(NoRow::Short { session: row.id }));
     }
     let outbox = match folders.outbox(errand.folder.as_str(), row.id) {
         Ok(outbox) => outbox,

@@ -16,7 +16,7 @@ returns-in-Ok-clause-migrates g c = λ told tells.
 pub returns-in-Err-clause-migrates : goal.returns-in-Err-clause-migrates
 returns-in-Err-clause-migrates g c = λ told tells.
     rowless_so _ _ (g.S.Shelf.told.disk c.args.shelf.now) (g.S.Shelf.told.disk c.rows_in_files.new.shelf) (FailsAt g.S.Shelf.told g.S.Disk.Disk.told c.args.shelf.now c.rows_in_files.new.shelf) c.args.session c.args.new_session c.in-Err.end c.in-Err.ensures.only
-    (λ number place is. c.rows_in_files.ensures.none number place (c.in-Err.is ∙ ap Err is) told) c.rows_in_files.ensures.disks
+    (λ why is. c.rows_in_files.ensures.none why (c.in-Err.is ∙ ap Err is) told) c.rows_in_files.ensures.disks
 
 pub returns-in-Ok-clause-device : goal.returns-in-Ok-clause-device
 returns-in-Ok-clause-device g c =

@@ -16,7 +16,7 @@ use disk_model::{Disk, Role};
 use passage::{Calm, WaitHighEnd, WaitLowEnd};
 use pump_frame::SessionRow;
 use pump_link::{Clock, Ports, Sink};
-use recovery::{Why, open_pump_waiting};
+use recovery::{NotOpened, Why, open_pump_waiting};
 use relay_ring::RingPassage;
 use relay_side::RelaySide;
 use relay_threads::Watch;
@@ -68,6 +68,20 @@ pub enum ServedOver<D, L, H> {
     },
 }
 
+// No worker ran, since a disk is refused.
+fn refused_by<D>(refused: NotOpened<D>) -> Served<D>
+    ensures { result ≡ record { end = SessionEnd.Refused refused.role refused.why; low = refused.low; high = refused.high } }
+{
+    Served {
+        end: SessionEnd::Refused {
+            role: refused.role,
+            why: refused.why,
+        },
+        low: refused.low,
+        high: refused.high,
+    }
+}
+
 // Over the two ends of a passage in which nothing was done yet.
 fn serve_over<
     T: Threads + Wait + Sync,
@@ -107,16 +121,7 @@ where
     let row = serving.row;
     let opened = match open_pump_waiting(rt, parts.low, parts.high, row, &mut parts.low_end) {
         Ok(opened) => opened,
-        Err(refused) => {
-            return ServedOver::Unserved(Served {
-                end: SessionEnd::Refused {
-                    role: refused.role,
-                    why: refused.why,
-                },
-                low: refused.low,
-                high: refused.high,
-            });
-        }
+        Err(refused) => return ServedOver::Unserved(refused_by(refused)),
     };
     let low = start_low(
         row,

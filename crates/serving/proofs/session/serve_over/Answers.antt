@@ -38,7 +38,7 @@ pub returns-in-Err : goal.returns-in-Err
 returns-in-Err g c =
     let e = c.in-Err.ensures in
     let r = c.in-Err.refused in
-    record {
+    rw c.refused_by.ensures (record {
       ended = refl;
       comes = record {
         opens = (rose_so g.D.Disk.told c.args.serving.now.row.now r.role (is_device r.why) c.args.parts.low c.args.parts.high r.low r.high e.role e.calls_low e.calls_high, e.exact);
@@ -49,7 +49,7 @@ returns-in-Err g c =
         still = λ none told. (e.moves_low.reads told, e.moves_high.reads told);
         counts = (e.calls_low.counts, high_calls g.D.Disk.told c.args.serving.now.row.now c.args.parts.low c.args.parts.high r.high _ e.calls_high);
       };
-    }
+    })
 
 -- ---- opened ----
 

@@ -70,7 +70,11 @@ pub enum ServedOver<D, L, H> {
 
 // No worker ran, since a disk is refused.
 fn refused_by<D>(refused: NotOpened<D>) -> Served<D>
-    ensures { result ≡ record { end = SessionEnd.Refused refused.role refused.why; low = refused.low; high = refused.high } }
+    ensures { result ≡ record {
+      end = SessionEnd.Refused refused.role refused.why;
+      low = refused.low;
+      high = refused.high;
+    } }
 {
     Served {
         end: SessionEnd::Refused {

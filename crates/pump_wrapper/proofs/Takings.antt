@@ -11,29 +11,33 @@ use Rattle.stable_buffer.proofs.Cells.{value-selects}
 use Rattle.high_receiver.specs.Receiving.{IsRecvReady, recv_count, recv_disk, recv_end, recv_row, recv_size}
 use Rattle.high_receiver.specs.declared.receiver.Receiver.{Receiver}
 use Rattle.high_receiver.proofs.Appends.{end_is}
-use Rattle.pump_wrapper.specs.Receivers.{KeepsReceiver}
+use Rattle.pump_wrapper.specs.Receivers.{ReadsReceiver}
 use Rattle.pump_wrapper.specs.Wrapped.{piece_of, unwrapped}
 use Rattle.pump_wrapper.proofs.Wrapping.{unwrapped_push}
 
 -- a receiver before anything is read of it, and after one read more
-pub kept_first : {D : Type 0} (m : Meaning D) (receiver : Receiver D) → KeepsReceiver m receiver receiver
+pub kept_first : {D : Type 0} (m : Meaning D) (receiver : Receiver D) → ReadsReceiver m receiver receiver
 kept_first m receiver = record {
-  count = refl;
-  end = refl;
-  row = refl;
-  size = refl;
-  moves = started m Same (λ bytes. refl) (recv_disk receiver);
+  log = record {
+    count = refl;
+    end = refl;
+    row = refl;
+    size = refl;
+    moves = started m Same (λ bytes. refl) (recv_disk receiver);
+  };
   counts = omega arith;
 }
 
-pub kept_on : {D : Type 0} (m : Meaning D) (old mid new : Receiver D) → KeepsReceiver m old mid → recv_count new ≡ recv_count mid → recv_end new ≡ recv_end mid → recv_row new ≡ recv_row mid → recv_size new ≡ recv_size mid
-    → Moves m Same (recv_disk mid) (recv_disk new) → m.count (recv_disk mid) ≤ m.count (recv_disk new) → KeepsReceiver m old new
+pub kept_on : {D : Type 0} (m : Meaning D) (old mid new : Receiver D) → ReadsReceiver m old mid → recv_count new ≡ recv_count mid → recv_end new ≡ recv_end mid → recv_row new ≡ recv_row mid → recv_size new ≡ recv_size mid
+    → Moves m Same (recv_disk mid) (recv_disk new) → m.count (recv_disk mid) ≤ m.count (recv_disk new) → ReadsReceiver m old new
 kept_on m old mid new kept count end row size moves counts = record {
-  count = count ∙ kept.count;
-  end = end ∙ kept.end;
-  row = row ∙ kept.row;
-  size = size ∙ kept.size;
-  moves = goes_on_same m Same _ _ _ kept.moves moves;
+  log = record {
+    count = count ∙ kept.log.count;
+    end = end ∙ kept.log.end;
+    row = row ∙ kept.log.row;
+    size = size ∙ kept.log.size;
+    moves = goes_on_same m Same _ _ _ kept.log.moves moves;
+  };
   counts = omega (arith, kept.counts, counts);
 }
 

@@ -5,7 +5,7 @@ ghost use Rattle.stable_buffer.specs.Log.{RecvStands};
 ghost use Rattle.high_receiver.specs.Receiving.{IsRecvReady, recv_disk, recv_is_open, recv_row};
 ghost use Rattle.pump_wrapper.specs.Comparing.{Compares, CompareCause, IsDeviceStop, SameBytes, TakesInAll};
 ghost use Rattle.pump_wrapper.specs.Cutting.{MayCut, cut_message};
-ghost use Rattle.pump_wrapper.specs.Receivers.{KeepsReceiver};
+ghost use Rattle.pump_wrapper.specs.Receivers.{ReadsReceiver};
 
 use crate::{Cut, Cutter};
 use disk_model::Disk;
@@ -45,7 +45,7 @@ pub fn skip_received<D: Disk, I: Source>(
     ensures message { cut_message cutter.new ≡ cut_message cutter.old }
     ensures ready { (IsDeviceStop result → ⊥) → IsRecvReady D.told receiver.new }
     ensures closed { IsDeviceStop result → recv_is_open receiver.new ≡ false }
-    ensures keeps { KeepsReceiver D.told receiver.old receiver.new }
+    ensures keeps { ReadsReceiver D.told receiver.old receiver.new }
 
     ensures cause { CompareCause (D.told.count (recv_disk receiver.old))
         (D.told.count (recv_disk receiver.new)) (I.faults file.old) (I.faults file.new) result }

@@ -5,7 +5,7 @@ ghost use Rattle.stable_buffer.specs.Log.{RecvStands};
 ghost use Rattle.high_receiver.specs.Receiving.{IsRecvReady, recv_disk, recv_is_open, recv_row};
 ghost use Rattle.pump_wrapper.specs.Gathers.{Gathers, GathersBy, GatherCause, IsDeviceFault, IsUnbroken};
 ghost use Rattle.pump_wrapper.specs.HeldBack.{Held, held_in};
-ghost use Rattle.pump_wrapper.specs.Receivers.{KeepsReceiver};
+ghost use Rattle.pump_wrapper.specs.Receivers.{ReadsReceiver};
 ghost use Rattle.pump_link.specs.Causes.{AppendsPrefix};
 
 use crate::gathering::Gathering;
@@ -59,7 +59,7 @@ fn gather_held<D: Disk, O: Sink>(
         (O.written out.new)) message messages result }
     ensures ready { (IsDeviceFault result → ⊥) → IsRecvReady D.told receiver.new }
     ensures closed { IsDeviceFault result → recv_is_open receiver.new ≡ false }
-    ensures keeps { KeepsReceiver D.told receiver.old receiver.new }
+    ensures keeps { ReadsReceiver D.told receiver.old receiver.new }
 
     ensures cause { GatherCause (D.told.count (recv_disk receiver.old))
         (D.told.count (recv_disk receiver.new)) (O.faults out.old) (O.faults out.new) result }
@@ -107,7 +107,7 @@ pub fn gather<D: Disk, O: Sink>(
         → Gathers message messages (O.written out.old) (O.written out.new) result }
     ensures ready { IsUnbroken result → IsRecvReady D.told receiver.new }
     ensures closed { IsDeviceFault result → recv_is_open receiver.new ≡ false }
-    ensures keeps { KeepsReceiver D.told receiver.old receiver.new }
+    ensures keeps { ReadsReceiver D.told receiver.old receiver.new }
 
     ensures cause { GatherCause (D.told.count (recv_disk receiver.old))
         (D.told.count (recv_disk receiver.new)) (O.faults out.old) (O.faults out.new) result }

@@ -32,7 +32,7 @@ at-requires g c =
     let kept = c.loop-number.invariant in
     record {
       ready = kept.ready;
-      taken = omega (arith, c.loop-number-test.true, c.count-number-end.ensures, kept.keeps.count);
+      taken = omega (arith, c.loop-number-test.true, c.count-number-end.ensures, kept.keeps.log.count);
       place = kept.place;
     }
 
@@ -67,8 +67,8 @@ returns-in-Done g c =
     let t = next.takes in
     record {
       compares = λ told messages stands.
-          let on = stands_on m c.args.receiver.now c.loop-number.receiver messages kept.keeps.row kept.keeps.moves told stands in
-          let lt : n < length messages = omega (arith, c.loop-number-test.true, c.count-number-end.ensures, kept.keeps.count, count_is m c.loop-number.receiver messages kept.ready told on) in
+          let on = stands_on m c.args.receiver.now c.loop-number.receiver messages kept.keeps.log.row kept.keeps.log.moves told stands in
+          let lt : n < length messages = omega (arith, c.loop-number-test.true, c.count-number-end.ensures, kept.keeps.log.count, count_is m c.loop-number.receiver messages kept.ready told on) in
           let more = next_message messages n c.at.new.into c.at.new.into lt (e.message told messages on) refl in
           ends_before messages n c.at.new.into c.next.new.into c.args.cutter.now c.loop-number.cutter c.next.new.self _ _ _ kept.bytes.0 kept.bytes.1 lt more (kept.passed told messages stands) next.gives;
       same = tt;
@@ -136,8 +136,8 @@ returns-then-ne g c =
     let t = next.takes in
     record {
       compares = λ told messages stands.
-          let on = stands_on m c.args.receiver.now c.loop-number.receiver messages kept.keeps.row kept.keeps.moves told stands in
-          let lt : n < length messages = omega (arith, c.loop-number-test.true, c.count-number-end.ensures, kept.keeps.count, count_is m c.loop-number.receiver messages kept.ready told on) in
+          let on = stands_on m c.args.receiver.now c.loop-number.receiver messages kept.keeps.log.row kept.keeps.log.moves told stands in
+          let lt : n < length messages = omega (arith, c.loop-number-test.true, c.count-number-end.ensures, kept.keeps.log.count, count_is m c.loop-number.receiver messages kept.ready told on) in
           let more = next_message messages n c.at.new.into c.at.new.into lt (e.message told messages on) refl in
           let other : c.at.new.into ≡ c.next.new.into → ⊥ =
           λ is.
@@ -172,8 +172,8 @@ loop-number-preserved g c =
       may = next.may refl;
       message = next.same ∙ kept.message;
       passed = λ told messages stands.
-          let on = stands_on m c.args.receiver.now c.loop-number.receiver messages kept.keeps.row kept.keeps.moves told stands in
-          let lt : n < length messages = omega (arith, c.loop-number-test.true, c.count-number-end.ensures, kept.keeps.count, count_is m c.loop-number.receiver messages kept.ready told on) in
+          let on = stands_on m c.args.receiver.now c.loop-number.receiver messages kept.keeps.log.row kept.keeps.log.moves told stands in
+          let lt : n < length messages = omega (arith, c.loop-number-test.true, c.count-number-end.ensures, kept.keeps.log.count, count_is m c.loop-number.receiver messages kept.ready told on) in
           let more = next_message messages n c.at.new.into c.next.new.into lt (e.message told messages on) (sym same) in
           one_passed (take n messages) (take (n + 1) messages) c.next.new.into c.args.cutter.now c.loop-number.cutter c.next.new.self _ _ _ kept.bytes.0 kept.bytes.1 (kept.passed told messages stands) next.gives more;
       same = one_counted c.args.cutter.now c.loop-number.cutter c.next.new.self _ _ _ kept.bytes.0 kept.bytes.1 kept.same next.counts;
@@ -187,8 +187,8 @@ returns g c =
     let n = c.loop-number.number in
     record {
       compares = λ told messages stands.
-          let on = stands_on m c.args.receiver.now c.loop-number.receiver messages kept.keeps.row kept.keeps.moves told stands in
-          let all : take n messages ≡ messages = take_all n messages (omega (arith, c.loop-number-test.false, c.count-number-end.ensures, kept.keeps.count, count_is m c.loop-number.receiver messages kept.ready told on)) in
+          let on = stands_on m c.args.receiver.now c.loop-number.receiver messages kept.keeps.log.row kept.keeps.log.moves told stands in
+          let all : take n messages ≡ messages = take_all n messages (omega (arith, c.loop-number-test.false, c.count-number-end.ensures, kept.keeps.log.count, count_is m c.loop-number.receiver messages kept.ready told on)) in
           subst (λ (ms : List (List ℕ)). passed ms c.args.cutter.now c.loop-number.cutter (g.I.Source.left c.args.file.now) (g.I.Source.left c.loop-number.file)) all (kept.passed told messages stands);
       same = kept.same;
       takes = (kept.bytes.0, kept.bytes.1, (λ long. absurd cc), (λ other. omega (arith, kept.may.few, kept.bytes.2)), λ ok. kept.bytes.2);

@@ -4,7 +4,7 @@ use Rattle.stable_buffer.specs.Log.{RecvStands}
 use Rattle.high_receiver.specs.Receiving.{IsRecvReady, IsRecordAt, recv_disk, recv_row}
 use Rattle.pump_wrapper.specs.Comparing.{SameBytes}
 use Rattle.pump_wrapper.specs.Cutting.{MayCut, cut_bytes, cut_message}
-use Rattle.pump_wrapper.specs.Receivers.{KeepsReceiver}
+use Rattle.pump_wrapper.specs.Receivers.{ReadsReceiver}
 use Rattle.pump_wrapper.proofs.Compared.{passed}
 use Rattle.pump_wrapper.proofs.compare.skip_received.Given as goal
 
@@ -14,7 +14,7 @@ invariant-loop-number g l =
     let r = l.fn.receiver in
     record {
       ready : IsRecvReady m l.receiver;
-      keeps : KeepsReceiver m r l.receiver;
+      keeps : ReadsReceiver m r l.receiver;
       place : IsRecordAt m l.receiver l.number l.at;
       later : g.I.Source.faults l.fn.file ≤ g.I.Source.faults l.file;
       may : MayCut l.cutter;

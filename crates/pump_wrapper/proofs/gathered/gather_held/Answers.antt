@@ -19,8 +19,8 @@ returns-in-Err g c =
     record {
       gathers = λ told messages stands.
           let n = c.loop-number.number in
-          let on = stands_on m c.args.receiver.now c.loop-number.receiver messages kept.keeps.row kept.keeps.moves told stands in
-          let lt : n < length messages = omega (arith, c.loop-number-test.true, c.count-number-end.ensures, kept.keeps.count, count_is m c.loop-number.receiver messages kept.ready told on) in
+          let on = stands_on m c.args.receiver.now c.loop-number.receiver messages kept.keeps.log.row kept.keeps.log.moves told stands in
+          let lt : n < length messages = omega (arith, c.loop-number-test.true, c.count-number-end.ensures, kept.keeps.log.count, count_is m c.loop-number.receiver messages kept.ready told on) in
           (n, lt, begins c.args.message (take n messages) c.loop-number.gathering (kept.taken told messages stands), kept.wrote told messages stands);
       ready = λ other. absurd (other tt);
       closed = λ device. e.closed;
@@ -37,8 +37,8 @@ returns-in_default g c =
     record {
       gathers = λ told messages stands.
           let n = c.loop-number.number in
-          let on = stands_on m c.args.receiver.now c.loop-number.receiver messages kept.keeps.row kept.keeps.moves told stands in
-          let lt : n < length messages = omega (arith, c.loop-number-test.true, c.count-number-end.ensures, kept.keeps.count, count_is m c.loop-number.receiver messages kept.ready told on) in
+          let on = stands_on m c.args.receiver.now c.loop-number.receiver messages kept.keeps.log.row kept.keeps.log.moves told stands in
+          let lt : n < length messages = omega (arith, c.loop-number-test.true, c.count-number-end.ensures, kept.keeps.log.count, count_is m c.loop-number.receiver messages kept.ready told on) in
           let more = next_message messages n (given_message c.advance.new.self) c.message.result.now lt (c.in-Ok.ensures.message told messages on ∙ ap (λ k. slice_index_or messages k []) kept.given) c.message.ensures.message in
           let has = kept.taken told messages stands in
           let never = begins_no c.args.message (take n messages) c.message.result.now c.loop-number.gathering has c.in_default.ensures.taken in
@@ -61,8 +61,8 @@ returns-in-Err-put g c =
           let asl = c.message.result.now in
           let piece = c.in-Some.piece.now in
           let step = c.in-Some.ensures.taken in
-          let on = stands_on m c.args.receiver.now c.loop-number.receiver messages kept.keeps.row kept.keeps.moves told stands in
-          let lt : n < length messages = omega (arith, c.loop-number-test.true, c.count-number-end.ensures, kept.keeps.count, count_is m c.loop-number.receiver messages kept.ready told on) in
+          let on = stands_on m c.args.receiver.now c.loop-number.receiver messages kept.keeps.log.row kept.keeps.log.moves told stands in
+          let lt : n < length messages = omega (arith, c.loop-number-test.true, c.count-number-end.ensures, kept.keeps.log.count, count_is m c.loop-number.receiver messages kept.ready told on) in
           let more = next_message messages n (given_message c.advance.new.self) asl lt (c.in-Ok.ensures.message told messages on ∙ ap (λ k. slice_index_or messages k []) kept.given) c.message.ensures.message in
           let has = one_taken c.args.message (take n messages) asl c.loop-number.gathering c.take.new.self (kept.taken told messages stands) step.0 in
           let held = kept.wrote told messages stands in
@@ -114,9 +114,9 @@ loop-number-preserved g c =
     let step = c.in-Some.ensures.taken in
     let asl = c.message.result.now in
     let piece = c.in-Some.piece.now in
-    let on = λ (told : m.tells) (messages : List (List ℕ)) (stands : RecvStands c.args.receiver.now.row messages (m.reading c.args.receiver.now.register.disk)). stands_on m c.args.receiver.now c.loop-number.receiver messages kept.keeps.row kept.keeps.moves told stands in
+    let on = λ (told : m.tells) (messages : List (List ℕ)) (stands : RecvStands c.args.receiver.now.row messages (m.reading c.args.receiver.now.register.disk)). stands_on m c.args.receiver.now c.loop-number.receiver messages kept.keeps.log.row kept.keeps.log.moves told stands in
     let more = λ (told : m.tells) (messages : List (List ℕ)) (stands : RecvStands c.args.receiver.now.row messages (m.reading c.args.receiver.now.register.disk)).
-    next_message messages n (given_message c.advance.new.self) asl (omega (arith, c.loop-number-test.true, c.count-number-end.ensures, kept.keeps.count, count_is m c.loop-number.receiver messages kept.ready told (on told messages stands))) (e.message told messages (on told messages stands) ∙ ap (λ k. slice_index_or messages k []) kept.given) c.message.ensures.message in
+    next_message messages n (given_message c.advance.new.self) asl (omega (arith, c.loop-number-test.true, c.count-number-end.ensures, kept.keeps.log.count, count_is m c.loop-number.receiver messages kept.ready told (on told messages stands))) (e.message told messages (on told messages stands) ∙ ap (λ k. slice_index_or messages k []) kept.given) c.message.ensures.message in
     let bytes = λ (told : m.tells) (messages : List (List ℕ)) (stands : RecvStands c.args.receiver.now.row messages (m.reading c.args.receiver.now.register.disk)). next_bytes messages n asl piece (more told messages stands) step.1 in
     record {
       ready = e.ready;
@@ -138,8 +138,8 @@ returns g c =
     record {
       gathers = λ told messages stands.
           let n = c.loop-number.number in
-          let on = stands_on m c.args.receiver.now c.loop-number.receiver messages kept.keeps.row kept.keeps.moves told stands in
-          let all : take n messages ≡ messages = take_all n messages (omega (arith, c.loop-number-test.false, c.count-number-end.ensures, kept.keeps.count, count_is m c.loop-number.receiver messages kept.ready told on)) in
+          let on = stands_on m c.args.receiver.now c.loop-number.receiver messages kept.keeps.log.row kept.keeps.log.moves told stands in
+          let all : take n messages ≡ messages = take_all n messages (omega (arith, c.loop-number-test.false, c.count-number-end.ensures, kept.keeps.log.count, count_is m c.loop-number.receiver messages kept.ready told on)) in
           let has = subst (λ (ms : List (List ℕ)). HasTaken c.args.message ms c.loop-number.gathering) all (kept.taken told messages stands) in
           let is = c.is_whole.ensures in (
             begins c.args.message messages c.loop-number.gathering has,
@@ -160,5 +160,5 @@ advance-requires g c =
     record {
       ready = kept.ready;
       reading = kept.reading;
-      more = omega (arith, c.loop-number-test.true, c.count-number-end.ensures, kept.keeps.count, kept.given);
+      more = omega (arith, c.loop-number-test.true, c.count-number-end.ensures, kept.keeps.log.count, kept.given);
     }

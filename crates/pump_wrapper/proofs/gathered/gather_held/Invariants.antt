@@ -3,7 +3,7 @@ use Rattle.stable_buffer.specs.Log.{RecvStands}
 use Rattle.high_receiver.specs.Receiving.{IsRecvReady, recv_disk, recv_row}
 use Rattle.high_receiver.specs.LogReading.{IsReading, given_count}
 use Rattle.pump_wrapper.specs.HeldBack.{Held, held_in}
-use Rattle.pump_wrapper.specs.Receivers.{KeepsReceiver}
+use Rattle.pump_wrapper.specs.Receivers.{ReadsReceiver}
 use Rattle.pump_wrapper.specs.Wrapped.{unwrapped}
 use Rattle.pump_wrapper.specs.Gathering.{HasTaken}
 use Rattle.pump_wrapper.proofs.gathered.gather_held.Given as goal
@@ -14,7 +14,7 @@ invariant-loop-number g l =
     let r = l.fn.receiver in
     record {
       ready : IsRecvReady m l.receiver;
-      keeps : KeepsReceiver m r l.receiver;
+      keeps : ReadsReceiver m r l.receiver;
       reading : IsReading m l.receiver l.log;
       given : given_count l.log ≡ l.number;
       later : g.O.Sink.faults l.fn.out ≤ g.O.Sink.faults l.out;

@@ -1,8 +1,10 @@
 -- What a reader's fields become with one more byte.
-use Rattle.std.proofs.Common.{◌≡◌, ℕ, ◌<◌, List, [], ◌∷◌, ◌++◌, length, Option, None, Some, refl, sym, ap, ◌∙◌, subst, arith}
+use Rattle.std.proofs.Common.{◌≡◌, ℕ, ◌-◌, ◌<◌, Bool, true, not, List, [], ◌∷◌, ◌++◌, length, Option, None, Some, refl, sym, ap, ◌∙◌, subst, arith}
+use Rattle.std.specs.Prelude.{if◌then◌else◌, is_some}
+use Rattle.std.proofs.lemmas.Bool.{ne_eqb}
 use Rattle.pump_frame.specs.Places.{run, step, IsLive, IsWhole, StandsAt, reading_of}
 use Rattle.pump_frame.specs.declared.place.Place.{Place}
-use Rattle.pump_frame.specs.declared.place.Place.TheVariants.{FirstMark, End}
+use Rattle.pump_frame.specs.declared.place.Place.TheVariants.{FirstMark, PayloadBytes, End}
 use Rattle.pump_frame.proofs.Steps.{live_run}
 use Rattle.pump_frame.specs.Spellings.{IsPartial}
 use Rattle.pump_frame.specs.Readings.{Reading, Within, Stopped, HasBegun}
@@ -68,3 +70,13 @@ nothing_held bad items none empty =
 pub begun_at : (bad : Option ℕ) (held : List ℕ) (place : Place) → StandsAt bad held place → HasBegun (reading_of bad held)
 begun_at None held place stands = partial_from held place stands.2 stands.0 stands.1
 begun_at (Some at) held place stands = tt
+
+pub none_by : (bad : Option ℕ) (answer : Bool) → is_some bad ≡ not answer → answer ≡ true → bad ≡ None
+none_by None answer e is = refl
+none_by (Some at) answer e is = cc
+
+-- a payload that goes on behind the byte
+pub goes_on : (place : Place) (left byte : ℕ) → place ≡ PayloadBytes left → 1 < left → step place byte ≡ Some (PayloadBytes (left - 1))
+goes_on place left byte is more =
+    let P : Place → Type 0 = λ p. step p byte ≡ Some (PayloadBytes (left - 1)) in
+    subst P (sym is) (ap (λ (b : Bool). Some (if b then End else PayloadBytes (left - 1))) (ne_eqb left 1 (λ e. omega arith)))

@@ -95,7 +95,25 @@ impl Reader {
 
     /// Reads one more byte as `feed` does, and moves no frame: a whole one is written into the room.
     /// `More` and `Bad` leave the room as it was.
+    #[inline(always)]
     pub fn feed_into(&mut self, byte: u8, into: &mut Frame) -> Step
+        ensures answer { Feeds self.old byte (fed_of result into.new) self.new }
+        ensures room { Leaves result into.old into.new }
+        ensures begun { HasBegun self.new }
+    {
+        match self.place {
+            // Most bytes are those of a payload that goes on behind them.
+            Place::PayloadBytes { left } if left > 1 && self.bad.is_none() => {
+                self.held.push(byte);
+                self.place = Place::PayloadBytes { left: left - 1 };
+                Step::More
+            }
+            _ => self.feed_any(byte, into),
+        }
+    }
+
+    // As `feed_into`.
+    fn feed_any(&mut self, byte: u8, into: &mut Frame) -> Step
         ensures answer { Feeds self.old byte (fed_of result into.new) self.new }
         ensures room { Leaves result into.old into.new }
         ensures begun { HasBegun self.new }

@@ -5,7 +5,7 @@ ghost use Rattle.pump_frame.specs.Counts.{raised};
 ghost use Rattle.adapters.specs.Files.{count_alone};
 
 use crate::file_ahead::FileAhead;
-use crate::file_place::{Access, FilePlace};
+use crate::file_place::FilePlace;
 use disk_model::{Disk, DiskFault, DiskName};
 use pump_frame::raised;
 use std::alloc::Global;
@@ -43,18 +43,19 @@ impl<'a, R> FileDisk<'a, R> {
 }
 
 impl<'a, R: Files<File = File>> FileDisk<'a, R> {
-    /// The disk of this name. Where it has a file, that is locked from now on.
+    /// The disk of this name. Where it has a file, that is locked from now on. It may be written where the
+    /// folder is given, which is synced for that.
     pub fn take(
         alloc: Global,
         files: &'a R,
         name: DiskName,
-        access: Access,
+        folder: Option<&File>,
     ) -> io::Result<FileDisk<'a, R>>
         ensures { IfOk result (λ disk. disk.faults ≡ 0) }
     {
         let ahead = FileAhead::new(alloc)?;
         Ok(FileDisk {
-            place: FilePlace::take(files, name, access)?,
+            place: FilePlace::take(files, name, folder)?,
             size: None,
             ahead,
             faults: 0,

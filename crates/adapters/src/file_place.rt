@@ -22,8 +22,12 @@ pub enum Access {
 pub enum FilePlace<'a, R> {
     /// A file is there. It is open and locked.
     Filled(File),
-    /// There is none yet, and the first write makes it.
-    Free { files: &'a R, name: DiskName },
+    /// There is none yet, and the first write makes it, in this folder.
+    Free {
+        files: &'a R,
+        name: DiskName,
+        folder: File,
+    },
     /// There is none, and none is made.
     Closed,
 }
@@ -51,28 +55,23 @@ pub fn is_there<R: Files<File = File>>(files: &R, name: &str) -> io::Result<bool
     }
 }
 
-fn sync_folder<R: Files<File = File>>(files: &R) -> io::Result<()> {
-    File::open(files, ".")?.sync_all()
-}
-
 // The file that is there, locked. The folder is synced before one that may be written is handed out, so
 // that what is acknowledged outlives a crash, also in a file that was copied or moved there by others.
-fn open<R: Files<File = File>>(files: &R, name: &str, access: Access) -> io::Result<File> {
-    let may_write = access == Access::Write;
+fn open<R: Files<File = File>>(files: &R, name: &str, folder: Option<&File>) -> io::Result<File> {
     let file = OpenOptions::new()
         .read(true)
-        .write(may_write)
+        .write(folder.is_some())
         .open(files, name)?;
     file.try_lock()?;
-    if may_write {
-        sync_folder(files)?;
+    if let Some(folder) = folder {
+        folder.sync_all()?;
     }
     Ok(file)
 }
 
 // A new file, locked. One that came meanwhile is left alone. The folder is synced before anything is
 // written, so that the file's name outlives a crash as long as its bytes.
-fn make<R: Files<File = File>>(files: &R, name: &str) -> io::Result<File> {
+fn make<R: Files<File = File>>(files: &R, name: &str, folder: &File) -> io::Result<File> {
     let file = OpenOptions::new()
         .read(true)
         .write(true)
@@ -80,20 +79,29 @@ fn make<R: Files<File = File>>(files: &R, name: &str) -> io::Result<File> {
         .mode(0o600)
         .open(files, name)?;
     file.try_lock()?;
-    sync_folder(files)?;
+    folder.sync_all()?;
     Ok(file)
 }
 
 impl<'a, R: Files<File = File>> FilePlace<'a, R> {
-    /// The place of this disk, whose file is taken where it is there.
-    pub fn take(files: &'a R, name: DiskName, access: Access) -> io::Result<FilePlace<'a, R>> {
+    /// The place of this disk, whose file is taken where it is there. It may be written where the folder is
+    /// given, which is synced for that.
+    pub fn take(
+        files: &'a R,
+        name: DiskName,
+        folder: Option<&File>,
+    ) -> io::Result<FilePlace<'a, R>> {
         let text = file_name(name);
         if is_there(files, text.as_str())? {
-            return Ok(FilePlace::Filled(open(files, text.as_str(), access)?));
+            return Ok(FilePlace::Filled(open(files, text.as_str(), folder)?));
         }
-        match access {
-            Access::Read => Ok(FilePlace::Closed),
-            Access::Write => Ok(FilePlace::Free { files, name }),
+        match folder {
+            None => Ok(FilePlace::Closed),
+            Some(folder) => Ok(FilePlace::Free {
+                files,
+                name,
+                folder: folder.try_clone()?,
+            }),
         }
     }
 
@@ -116,8 +124,13 @@ impl<'a, R: Files<File = File>> FilePlace<'a, R> {
 
     /// Writes the bytes at an offset. The first write of a disk makes its file.
     pub fn write(&mut self, at: u64, bytes: &[u8]) -> io::Result<()> {
-        if let FilePlace::Free { files, name } = self {
-            *self = FilePlace::Filled(make(*files, file_name(*name).as_str())?);
+        if let FilePlace::Free {
+            files,
+            name,
+            folder,
+        } = self
+        {
+            *self = FilePlace::Filled(make(*files, file_name(*name).as_str(), folder)?);
         }
         match self {
             FilePlace::Filled(file) => file.write_all_at(bytes, at),

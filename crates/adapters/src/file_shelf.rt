@@ -1,5 +1,6 @@
 //! The current folder as a shelf.
 
+ghost use Rattle.std.specs.Prelude.{◌≡◌, IfOk};
 ghost use Rattle.adapters.specs.Files.{counts_alone};
 
 use crate::file_disk::FileDisk;
@@ -23,6 +24,8 @@ pub struct FileShelf<'a, R> {
     alloc: Global,
     files: &'a R,
     access: Access,
+    // The folder, open to be synced once a disk was taken that may be written.
+    folder: Option<File>,
     faults: u64,
     disk_faults: u64,
     // Why the last file that failed did.
@@ -56,6 +59,22 @@ fn read_whole<R: Files<File = File>>(files: &R, name: &str, into: &mut [u8]) -> 
     Ok(file.metadata()?.len())
 }
 
+// The disk of this name. One that may be written needs the folder, which stays open for the next.
+fn take<'a, R: Files<File = File>>(
+    alloc: Global,
+    files: &'a R,
+    name: DiskName,
+    access: Access,
+    folder: &mut Option<File>,
+) -> io::Result<FileDisk<'a, R>>
+    ensures { IfOk result (λ disk. disk.faults ≡ 0) }
+{
+    if access == Access::Write && folder.is_none() {
+        *folder = Some(File::open(files, ".")?);
+    }
+    FileDisk::take(alloc, files, name, folder.as_ref())
+}
+
 impl<'a, R> FileShelf<'a, R> {
     /// The current folder, whose disks are used so.
     pub fn new(alloc: Global, files: &'a R, access: Access) -> FileShelf<'a, R> {
@@ -63,6 +82,7 @@ impl<'a, R> FileShelf<'a, R> {
             alloc,
             files,
             access,
+            folder: None,
             faults: 0,
             disk_faults: 0,
             why: None,
@@ -95,7 +115,7 @@ impl<'a, R: Files<File = File>> Shelf for FileShelf<'a, R> {
     }
 
     fn disk(&mut self, name: DiskName) -> Result<FileDisk<'a, R>, ShelfFault> {
-        match FileDisk::take(self.alloc, self.files, name, self.access) {
+        match take(self.alloc, self.files, name, self.access, &mut self.folder) {
             Ok(disk) => Ok(disk),
             Err(error) if error.kind() == ErrorKind::OutOfMemory => Err(ShelfFault::Memory),
             Err(error) => {

@@ -1,13 +1,11 @@
 //! The system's random bytes as a source.
 
-ghost use Rattle.std.specs.Prelude.{◌≡◌, None};
-ghost use Rattle.std.specs.Io.{ReadsAtMost};
+ghost use Rattle.std.specs.Prelude.{None};
 
-use crate::interruption::{TRIES, is_interrupted};
+use crate::interruption::read_again;
 use pump_frame::raised;
 use pump_link::{ReadFault, Source};
 use std::fs::{File, Files};
-use std::io::{self, Read};
 
 /// The system's random bytes as a source: `/dev/urandom`, which is opened at the first read. It tells
 /// how often a read failed, and nothing of the bytes.
@@ -26,19 +24,6 @@ impl<R: Files<File = File>> KeySource<R> {
             faults: 0,
         }
     }
-
-    fn read_some(&mut self, into: &mut [u8]) -> io::Result<usize>
-        ensures bound { ReadsAtMost result into.new }
-        ensures faults { self.new.faults ≡ self.old.faults }
-    {
-        if let Some(file) = &mut self.opened {
-            return file.read(into);
-        }
-        let mut file = File::open(&self.files, "/dev/urandom")?;
-        let count = file.read(into)?;
-        self.opened = Some(file);
-        Ok(count)
-    }
 }
 
 impl<R: Files<File = File>> Source for KeySource<R> {
@@ -50,11 +35,12 @@ impl<R: Files<File = File>> Source for KeySource<R> {
     ghost faults = { λ s. s.faults };
 
     fn read(&mut self, into: &mut [u8]) -> Result<usize, ReadFault> {
-        for _ in 0..TRIES {
-            match self.read_some(into) {
-                Ok(count) => return Ok(count),
-                Err(error) if is_interrupted(&error) => {}
-                Err(_) => break,
+        if self.opened.is_none() {
+            self.opened = File::open(&self.files, "/dev/urandom").ok();
+        }
+        if let Some(file) = &mut self.opened {
+            if let Ok(count) = read_again(file, into) {
+                return Ok(count);
             }
         }
         self.faults = raised(self.faults);

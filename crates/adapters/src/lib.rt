@@ -3,7 +3,8 @@
 //! over a reader and a writer (`StdSource`, `StdSink`), random bytes (`KeySource`), TCP ports, doors and
 //! links (`TcpPorts`, `TcpDoor`, `TcpLink`), and the machine's clock (`RealClock`). Each counts its
 //! failures, and tells nothing of what it holds or brings. The ports and the clock of one side of a relay
-//! come together. It knows no folder that files come into or go out of.
+//! come together (`machine_side`, `stepping_side`), and the clock is a `SideClock`, whichever it is. It knows
+//! no folder that files come into or go out of.
 #![tactic(auto)]
 
 mod counted;
@@ -18,6 +19,7 @@ mod read_ahead;
 mod readiness;
 mod real_clock;
 mod shown_source;
+mod side_clock;
 mod sides;
 mod standard;
 mod tcp_door;
@@ -34,6 +36,7 @@ pub use key_source::KeySource;
 pub use readiness::is_writable;
 pub use real_clock::{RealClock, now};
 pub use shown_source::ShownSource;
+pub use side_clock::SideClock;
 pub use sides::{machine_side, stepping_side};
 pub use standard::{StdSink, StdSource};
 pub use tcp_door::TcpDoor;

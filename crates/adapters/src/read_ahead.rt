@@ -42,6 +42,7 @@ impl ReadAhead {
     }
 
     /// The next byte, where one is left.
+    #[inline(always)]
     pub fn next(&mut self) -> Option<u8>
         ensures none { IfNone result ((self.old ≡ []) × (self.new ≡ [])) }
         ensures some { IfSome result (λ byte. self.old ≡ byte ∷ self.new) }

@@ -1,6 +1,7 @@
 //! The sides of a relay over the machine.
 
 use crate::real_clock::RealClock;
+use crate::side_clock::SideClock;
 use crate::tcp_ports::TcpPorts;
 use crate::traffic::Traffic;
 use pump_link::StepClock;
@@ -20,11 +21,11 @@ pub fn machine_side<'a, R: time::Clock>(
     machine: &'a R,
     start: Duration,
     traffic: &'a mut Traffic,
-) -> RelaySide<TcpPorts<'a, R>, RealClock<'a, R>> {
+) -> RelaySide<TcpPorts<'a, R>, SideClock<'a, R>> {
     let traffic: &'a Traffic = traffic;
     RelaySide {
         ports: TcpPorts::new(alloc, machine, traffic),
-        clock: RealClock::new(machine, start, traffic),
+        clock: SideClock::Machine(RealClock::new(machine, start, traffic)),
     }
 }
 
@@ -33,9 +34,9 @@ pub fn stepping_side<'a, R>(
     alloc: Global,
     machine: &'a R,
     traffic: &'a mut Traffic,
-) -> RelaySide<TcpPorts<'a, R>, StepClock> {
+) -> RelaySide<TcpPorts<'a, R>, SideClock<'a, R>> {
     RelaySide {
         ports: TcpPorts::new(alloc, machine, traffic),
-        clock: StepClock::new(0, STEP),
+        clock: SideClock::Steps(StepClock::new(0, STEP)),
     }
 }

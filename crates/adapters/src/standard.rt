@@ -2,7 +2,7 @@
 
 ghost use Rattle.std.specs.Prelude.{◌≡◌};
 
-use crate::interruption::{TRIES, is_interrupted};
+use crate::interruption::{TRIES, is_interrupted, read_again};
 use pump_frame::raised;
 use pump_link::{ReadFault, Sink, Source, WriteFault};
 use std::io::{Read, Write};
@@ -31,15 +31,13 @@ impl<R: Read> Source for StdSource<R> {
     ghost faults = { λ s. s.faults };
 
     fn read(&mut self, into: &mut [u8]) -> Result<usize, ReadFault> {
-        for _ in 0..TRIES {
-            match self.inner.read(into) {
-                Ok(count) => return Ok(count),
-                Err(error) if is_interrupted(&error) => {}
-                Err(_) => break,
+        match read_again(&mut self.inner, into) {
+            Ok(count) => Ok(count),
+            Err(fault) => {
+                self.faults = raised(self.faults);
+                Err(fault)
             }
         }
-        self.faults = raised(self.faults);
-        Err(ReadFault)
     }
 
     fn faults(&self) -> u64 {

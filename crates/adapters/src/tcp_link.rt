@@ -1,7 +1,7 @@
 //! A TCP connection as a link.
 
 ghost use Rattle.std.specs.Prelude.{◌≡◌, ◌≤◌, IfOk};
-ghost use Rattle.pump_frame.specs.Counts.{raised};
+ghost use Rattle.pump_frame.specs.Counts.{raised, Rose};
 ghost use Rattle.pump_link.specs.declared.link.Looked.{Looked as Look};
 
 use crate::read_ahead::ReadAhead;
@@ -91,6 +91,28 @@ impl<'a> TcpLink<'a> {
         })
     }
 
+    /// A look where no byte is left of those that were read ahead.
+    #[inline(never)]
+    fn look_further(&mut self) -> Looked
+        ensures later { self.old.faults ≤ self.new.faults }
+        ensures failed { result ≡ Look.Failed → Rose self.old.faults self.new.faults }
+    {
+        let waits = self.awaits || self.traffic.is_quiet();
+        let asks = if waits { self.asks } else { 1 };
+        self.asks = 0;
+        for _ in 0..asks {
+            match self.look_at_once() {
+                Looked::NotYet => {}
+                look => return look,
+            }
+        }
+        if waits && is_readable(&self.stream, LOOK) {
+            self.look_at_once()
+        } else {
+            Looked::NotYet
+        }
+    }
+
     /// A look that waits for nothing.
     fn look_at_once(&mut self) -> Looked
         ensures later { self.old.faults ≤ self.new.faults }
@@ -139,23 +161,11 @@ impl Link for TcpLink<'_> {
 
     ghost faults = { λ s. s.faults };
 
+    #[inline(always)]
     fn look(&mut self) -> Looked {
-        if let Some(byte) = self.ahead.next() {
-            return Looked::Byte(byte);
-        }
-        let waits = self.awaits || self.traffic.is_quiet();
-        let asks = if waits { self.asks } else { 1 };
-        self.asks = 0;
-        for _ in 0..asks {
-            match self.look_at_once() {
-                Looked::NotYet => {}
-                look => return look,
-            }
-        }
-        if waits && is_readable(&self.stream, LOOK) {
-            self.look_at_once()
-        } else {
-            Looked::NotYet
+        match self.ahead.next() {
+            Some(byte) => Looked::Byte(byte),
+            None => self.look_further(),
         }
     }
 

@@ -5,6 +5,7 @@ use Rattle.stable_buffer.specs.High.{IsHighReady, high_count}
 use Rattle.stable_buffer.specs.declared.high.HighStore.{HighStore}
 use Rattle.pump_frame.specs.declared.frame.Frame.{Frame}
 use Rattle.pump_core.specs.Passage.{Shape, Low, High}
+use Rattle.high_process.specs.declared.values.HighAsk.{HighAsk}
 use Rattle.high_process.specs.declared.values.HighFault.{HighFault}
 use Rattle.high_process.specs.declared.values.HighLook.{HighLook}
 use Rattle.high_process.specs.declared.process.HighProcess.{HighProcess}
@@ -12,7 +13,26 @@ use Rattle.high_process.specs.Past.{ProcessPast}
 use Rattle.high_process.specs.States.{row_of, removed_of, last_of, is_down, task_at, attaches_at, IsBetweenLooks}
 use Rattle.high_process.specs.Storing.{Fares, IsAfter, LeavesCounted}
 use Rattle.high_process.specs.Ends.{StandsFitting}
-use Rattle.high_process.specs.Looks.{StandsFor, Looked}
+use Rattle.high_process.specs.Looks.{StandsFor, LookBegins, Asked, Looked}
+
+-- What the first half of a look does with the process (p, then q) and its store.
+pub record FirstHalf {D : Type 0} (m : Meaning D) (p q : HighProcess) (old new : HighStore D) (moment : ℕ)
+    (frame : Option Frame) (result : Result HighAsk HighFault) : Type 0 where
+  -- the frame is refused, or a message removed, or the store is not called
+  pub fares : Fares m (task_at p frame) p q old new result
+  pub begins : IfOk result (λ ask. LookBegins p q moment (task_at p frame) (attaches_at p frame) ask)
+  pub asked : IfOk result (λ ask. Asked p q ask)
+  -- a crash at any moment leaves the count of before, or one more where the receiver has the message
+  pub images : LeavesCounted m p old new frame
+  pub fault : IfErr result (λ x. IsAfter x p q moment)
+  -- the second half may follow
+  pub store : OnOk result (IsHighReady m new)
+  pub count : OnOk result (high_count new ≡ removed_of q)
+  pub up : OnOk result (is_down q ≡ false)
+  -- .. or the next look may be made
+  pub between : OnErr result (IsBetweenLooks q)
+  pub last : OnOk result (last_of q ≡ moment)
+  pub row : row_of q ≡ row_of p
 
 -- What a look does with the process (p, then q), its store and its end of the passage (e, then f). The end's
 -- type says its shape and place, and what it stands for.

@@ -1,14 +1,11 @@
 // A look of the high process: its first half, and the whole over an end that waits for nobody.
-ghost use Rattle.std.specs.Prelude.{◌≡◌, ◌^◌, ◌<◌, ◌≤◌, false, IfSome, IfOk, IfErr, OnOk, OnErr};
+ghost use Rattle.std.specs.Prelude.{◌≡◌, ◌^◌, ◌≤◌, false};
 ghost use Rattle.stable_buffer.specs.High.{IsHighReady, high_count};
 ghost use Rattle.pump_core.specs.Passage.{Low, High};
 ghost use Rattle.high_process.specs.Tasks.{frame_of};
-ghost use Rattle.high_process.specs.States.{row_of, removed_of, last_of, is_down, task_at, attaches_at, IsBetweenLooks};
-ghost use Rattle.high_process.specs.Storing.{Fares, IsAfter, LeavesCounted};
+ghost use Rattle.high_process.specs.States.{removed_of, last_of, is_down, IsBetweenLooks};
 ghost use Rattle.high_process.specs.Ends.{StandsFitting};
-ghost use Rattle.high_process.specs.Past.{ProcessPast};
-ghost use Rattle.high_process.specs.Looks.{StandsFor, LookBegins, Asked, Looked};
-ghost use Rattle.high_process.specs.Whole.{WholeLook};
+ghost use Rattle.high_process.specs.Whole.{FirstHalf, WholeLook};
 
 use crate::HighProcess;
 use crate::how::{Asks, AtOnce};
@@ -38,27 +35,14 @@ impl HighProcess {
         requires store { IsHighReady D.told store.old }
         requires count { high_count store.old ≡ removed_of self.old }
 
-        ensures fares { Fares D.told (task_at self.old (frame_of frame.entry))
-            self.old self.new store.old store.new result }
-        ensures begins { IfOk result (λ ask. LookBegins self.old self.new moment
-            (task_at self.old (frame_of frame.entry)) (attaches_at self.old (frame_of frame.entry)) ask) }
-        ensures asked { IfOk result (λ ask. Asked self.old self.new ask) }
-        ensures images { LeavesCounted D.told self.old store.old store.new (frame_of frame.entry) }
-
-        ensures store { OnOk result (IsHighReady D.told store.new) }
-        ensures count { OnOk result (high_count store.new ≡ removed_of self.new) }
-        ensures up { OnOk result (is_down self.new ≡ false) }
-        ensures between { OnErr result (IsBetweenLooks self.new) }
-        ensures last { OnOk result (last_of self.new ≡ moment) }
-        ensures fault { IfErr result (λ fault. IsAfter fault self.old self.new moment) }
-        ensures row { row_of self.new ≡ row_of self.old }
+        ensures { FirstHalf D.told self.old self.new store.old store.new moment (frame_of frame.entry) result }
     {
         let task = self.task(frame);
         let attaches = self.attaches(frame);
         self.step(moment, task, attaches, store)
     }
 
-    // A look that makes the calls of the end in this way. Its clauses are the fields of `WholeLook`.
+    // A look that makes the calls of the end in this way.
     pub(crate) fn look_by<D: Disk, H: HighSide, A: Asks<H>>(
         &mut self,
         how: &A,
@@ -75,26 +59,9 @@ impl HighProcess {
         requires count { high_count store.old ≡ removed_of self.old }
         requires ends { (l : Low) × (h : High) × StandsFitting (H.stands ends.old) self.old l h }
 
-        ensures fares { Fares D.told (task_at self.old (frame_of frame.entry))
-            self.old self.new store.old store.new result }
-        ensures looks { IfOk result (λ look. (l : Low) (h : High) (t : ProcessPast)
-            → StandsFitting (H.stands ends.old) self.old l h → StandsFor self.old t
-            → Looked (H.shape ends.old) H.on_one_thread (StandsFitting (H.stands ends.new) self.new)
-            l h self.old self.new t moment
-            (task_at self.old (frame_of frame.entry)) (attaches_at self.old (frame_of frame.entry)) look) }
-        ensures images { LeavesCounted D.told self.old store.old store.new (frame_of frame.entry) }
-        ensures refused { OnErr result (ends.new ≡ ends.old) }
-        ensures fault { IfErr result (λ fault. IsAfter fault self.old self.new moment) }
-        ensures sent { IfOk result (λ look. IfSome look.sent (λ n. n ≡ removed_of self.new)) }
-
-        ensures store { OnOk result (IsHighReady D.told store.new) }
-        ensures count { OnOk result (high_count store.new ≡ removed_of self.new) }
-        ensures up { OnOk result (is_down self.new ≡ false) }
-        ensures between { IsBetweenLooks self.new }
-        ensures last { OnOk result (last_of self.new ≡ moment) }
-        ensures row { row_of self.new ≡ row_of self.old }
-        ensures shape { H.shape ends.new ≡ H.shape ends.old }
-        ensures place { H.place ends.new ≡ H.place ends.old }
+        ensures { WholeLook D.told H.shape H.place H.on_one_thread H.stands
+            self.old self.new store.old store.new ends.old ends.new
+            moment (frame_of frame.entry) result }
     {
         let ask = self.begin(moment, frame, store)?;
         self.take_up(how, &ask, ends);

@@ -1,6 +1,7 @@
 -- What a reader of a receiver's log has given, and what it holds.
-use Rattle.std.specs.Prelude.{◌≡◌, ℕ, ◌+◌, ◌-◌, ◌≤◌, List, length, take, drop, min}
+use Rattle.std.specs.Prelude.{◌≡◌, ℕ, ◌+◌, ◌-◌, ◌≤◌, false, List, length, take, drop, min, Result, OnOk, OnErr}
 use Rattle.disk_model.specs.Disk.{Meaning}
+use Rattle.pump_frame.specs.Counts.{Rose}
 use Rattle.stable_buffer.specs.Log.{RecvStands}
 use Rattle.stable_buffer.specs.Numbers.{length_at, message_at}
 use Rattle.high_receiver.specs.Receiving.{recv_disk, recv_end, recv_row, record_at}
@@ -58,3 +59,13 @@ pub record HasStepped (most : ℕ) (old new : LogReader) : Type 0 where
   pub found : length_at old.block old.until ≤ most → old.until + (2 + length_at old.block old.until) ≤ old.filled
       → (given_message new ≡ message_at old.block old.until)
       × (new.until ≡ old.until + (2 + length_at old.block old.until))
+
+-- The disk was called, or what was asked for was held already. It fails only where a call did: by its count, and by
+-- the plan of a disk that tells one.
+pub record MayAnswer {D T E : Type 0} (m : Meaning D) (old new : D) (result : Result T E) : Type 0 where
+  pub counts : m.count old ≤ m.count new
+  pub rose : OnErr result (Rose (m.count old) (m.count new))
+  pub never : OnErr result (m.tells_plan → m.armed old ≡ false → ⊥)
+  pub room : m.tells_plan → m.room new ≡ m.room old
+  pub armed : OnOk result (m.tells_plan → m.armed new ≡ m.armed old)
+  pub disarmed : OnErr result (m.tells_plan → m.armed new ≡ false)

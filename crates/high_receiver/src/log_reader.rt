@@ -1,14 +1,13 @@
 // A reader that gives a receiver's messages in order.
 ghost use Rattle.std.specs.Prelude.{◌≡◌, ◌+◌, ◌≤◌, ◌<◌, ◌^◌, ℕ, List, None, false, ⊤, [], length, slice_index_or};
 ghost use Rattle.std.specs.Prelude.{IfSome, OnOk, OnErr, IfErr};
-ghost use Rattle.disk_model.specs.Disk.{Moves, Same, Answers};
-ghost use Rattle.pump_frame.specs.Counts.{Rose};
+ghost use Rattle.disk_model.specs.Disk.{Answers};
 ghost use Rattle.stable_buffer.specs.Log.{RecvStands};
 ghost use Rattle.stable_buffer.specs.Numbers.{length_at};
 ghost use Rattle.high_receiver.specs.Receiving.{IsRecvReady, recv_count, recv_disk, recv_end, recv_is_open, recv_row};
-ghost use Rattle.high_receiver.specs.Receiving.{recv_size, KeepsLog};
-ghost use Rattle.high_receiver.specs.LogReading.{IsInBlock, IsReading, IsNew, HasFilled, HasStepped, given_count};
-ghost use Rattle.high_receiver.specs.LogReading.{given_message};
+ghost use Rattle.high_receiver.specs.Receiving.{KeepsLog};
+ghost use Rattle.high_receiver.specs.LogReading.{IsInBlock, IsReading, IsNew, HasFilled, HasStepped, MayAnswer};
+ghost use Rattle.high_receiver.specs.LogReading.{given_count, given_message};
 
 use crate::Receiver;
 use byteorder::{BigEndian, ByteOrder};
@@ -138,24 +137,10 @@ impl LogReader {
         ensures given { OnOk result (given_count self.new ≡ given_count self.old + 1) }
         ensures reading { OnOk result (IsReading D.told receiver.new self.new) }
         ensures ready { OnOk result (IsRecvReady D.told receiver.new) }
-        ensures count { recv_count receiver.new ≡ recv_count receiver.old }
-        ensures end { recv_end receiver.new ≡ recv_end receiver.old }
-        ensures row { recv_row receiver.new ≡ recv_row receiver.old }
-        ensures size { recv_size receiver.new ≡ recv_size receiver.old }
-        ensures moves { Moves D.told Same (recv_disk receiver.old) (recv_disk receiver.new) }
+        ensures keeps { KeepsLog D.told receiver.old receiver.new }
 
         ensures closed { OnErr result (recv_is_open receiver.new ≡ false) }
-        ensures counts { D.told.count (recv_disk receiver.old) ≤ D.told.count (recv_disk receiver.new) }
-        ensures rose { OnErr result (Rose (D.told.count (recv_disk receiver.old))
-            (D.told.count (recv_disk receiver.new))) }
-        ensures never { OnErr result (D.told.tells_plan
-            → D.told.armed (recv_disk receiver.old) ≡ false → ⊥) }
-        ensures room { D.told.tells_plan → D.told.room (recv_disk receiver.new)
-            ≡ D.told.room (recv_disk receiver.old) }
-        ensures armed { OnOk result (D.told.tells_plan → D.told.armed (recv_disk receiver.new)
-            ≡ D.told.armed (recv_disk receiver.old)) }
-        ensures disarmed { OnErr result (D.told.tells_plan
-            → D.told.armed (recv_disk receiver.new) ≡ false) }
+        ensures answers { MayAnswer D.told (recv_disk receiver.old) (recv_disk receiver.new) result }
         ensures device { IfErr result (λ e. e.faults ≡ D.told.count (recv_disk receiver.new)) }
     {
         // A record that is longer than any message is none, and its message is empty.

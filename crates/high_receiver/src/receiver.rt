@@ -244,11 +244,7 @@ impl<D: Disk> Receiver<D> {
         ensures fills { MayFill (recv_row self.old).message into.old into.new result }
         ensures next { IfOk result (λ next. IsRecordAt D.told self.new (n + 1) next) }
         ensures ready { OnOk result (IsRecvReady D.told self.new) }
-        ensures count { recv_count self.new ≡ recv_count self.old }
-        ensures end { recv_end self.new ≡ recv_end self.old }
-        ensures row { recv_row self.new ≡ recv_row self.old }
-        ensures size { recv_size self.new ≡ recv_size self.old }
-        ensures moves { Moves D.told Same (recv_disk self.old) (recv_disk self.new) }
+        ensures keeps { KeepsLog D.told self.old self.new }
 
         ensures closed { OnErr result (recv_is_open self.new ≡ false) }
         ensures answers { Answers D.told ⊤ (recv_disk self.old) (recv_disk self.new) result }

@@ -51,7 +51,7 @@ did m true Nothing d old new is s = absurd (is refl)
 did m true Bad d old new is s = absurd (is refl)
 did m true Gone d old new is s = absurd (is refl)
 
-neither : (b c : Bool) → (b || c) ≡ false → (b ≡ false) × (c ≡ false)
+pub neither : (b c : Bool) → (b || c) ≡ false → (b ≡ false) × (c ≡ false)
 neither true c e = absurd (cc)
 neither false c e = (refl, e)
 

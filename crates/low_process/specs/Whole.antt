@@ -16,8 +16,8 @@ use Rattle.low_process.specs.declared.values.Ask.{Ask}
 use Rattle.low_process.specs.declared.values.Ask.TheVariants.{Done, Forward, Average}
 use Rattle.pump_core.specs.Passage.{Shape, Low, High}
 use Rattle.low_process.specs.Looks.{row_of, next_of, last_of, is_down, look_of, hand_of, hand_after, StandsFor}
-use Rattle.low_process.specs.Looks.{LookBegins, Looks, IsInBounds}
-use Rattle.low_process.specs.Ends.{EndStep, StandsFitting}
+use Rattle.low_process.specs.Looks.{LookBegins, Looks, HandBegins, IsInBounds}
+use Rattle.low_process.specs.Ends.{EndStep, FitsEnd, StandsFitting}
 use Rattle.low_process.specs.Storing.{message_in, StoreStep, counted}
 
 -- the store is open, was made with the process's row, and has just the messages that the process
@@ -88,6 +88,26 @@ CountsBeyond n disk = (E : ℕ) × (value_of disk ≡ (E, 0)) × (n < E)
 abbrev pub KeepsAcknowledged : {D : Type 0} → Meaning D → SessionRow → Option Frame → D → Type 0
 KeepsAcknowledged m row reply disk =
     (n : ℕ) → reply ≡ Some (acknowledgement row n) → Each m (CountsBeyond n) disk
+
+-- What the first half of a look does with the process (p, then q) and its store. `lawful` is what is promised of
+-- the reply.
+pub record FirstHalf {D : Type 0} (m : Meaning D) (p q : LowProcess) (old new : LowStore D) (moment word : ℕ)
+    (a : Arrival) (ask : Ask) (lawful_reply : Type 0) : Type 0 where
+  -- in which the device failed or not
+  pub begins : (is_fault : Bool) × BeginStep m p q old new moment word a is_fault ask
+  -- the store is still the process's, and a crash at any moment leaves what it had, or this message too
+  pub store : HasStore m q new
+  pub images : LeavesStored m p old new a
+  -- a process that is down calls no disk and replies nothing
+  pub still : is_down p ≡ true → new ≡ old
+  pub silent : is_down p ≡ true → reply_in ask ≡ None
+  pub acknowledged : KeepsAcknowledged m (row_of p) (reply_in ask) (low_disk new)
+  pub lawful : lawful_reply
+  pub hand : HandBegins p q a ask
+  -- what fitted its end does so still
+  pub fits : (l : Low) → FitsEnd p l → FitsEnd q l
+  pub row : row_of q ≡ row_of p
+  pub last : last_of q ≡ moment
 
 -- ---- a whole look ----
 

@@ -1,17 +1,16 @@
 // A look of the low process: its first half, and the whole over an end that waits for nobody.
-ghost use Rattle.std.specs.Prelude.{◌≡◌, ℕ, ◌+◌, ◌^◌, ◌<◌, ◌≤◌, Bool, true, false, Some, None, IfSome};
-ghost use Rattle.stable_buffer.specs.Low.{low_disk};
+ghost use Rattle.std.specs.Prelude.{◌≡◌, ℕ, ◌+◌, ◌^◌, ◌<◌, ◌≤◌, Bool, false, Some, None, IfSome};
 ghost use Rattle.pump_frame.specs.Frames.{IsLawful as IsLawfulFrame};
 ghost use Rattle.pump_core.specs.ReplyFrames.{IsLawfulReply};
 ghost use Rattle.pump_core.specs.History.{Arrival as Offered};
 ghost use Rattle.pump_core.specs.Passage.{Low, High, ComesNext};
 ghost use Rattle.low_process.specs.declared.values.Asking.TheVariants.{Forward as AsksForward};
 ghost use Rattle.low_process.specs.Looks.{IsAnswerTo, IsInBounds, IsBetweenLooks, AsksToForward, AsksFor, IsLawful};
-ghost use Rattle.low_process.specs.Looks.{Looks, HandBegins, arrival_of, look_of, row_of, next_of, last_of, is_down};
+ghost use Rattle.low_process.specs.Looks.{Looks, arrival_of, look_of, row_of, next_of, last_of, is_down};
 ghost use Rattle.low_process.specs.Looks.{hand_of, item_in_hand, hand_passed};
 ghost use Rattle.low_process.specs.Heads.{look_with, ask_with};
-ghost use Rattle.low_process.specs.Ends.{OfferStep, EndStep, FitsEnd, StandsFitting};
-ghost use Rattle.low_process.specs.Whole.{HasStore, BeginStep, WholeLook, KeepsAcknowledged, LeavesStored, reply_in};
+ghost use Rattle.low_process.specs.Ends.{OfferStep, EndStep, StandsFitting};
+ghost use Rattle.low_process.specs.Whole.{HasStore, FirstHalf, WholeLook, reply_in};
 
 use crate::LowProcess;
 use crate::how::{Asks, AtOnce};
@@ -66,24 +65,8 @@ impl LowProcess {
         requires lawful { IsLawful (arrival_of arrival) }
         requires store { HasStore D.told self.old store.old }
 
-        ensures begins { (is_fault : Bool) × BeginStep D.told self.old self.new store.old store.new
-            moment word (arrival_of arrival.entry) is_fault (ask_with (row_of self.old) self.new head.new result) }
-        ensures store { HasStore D.told self.new store.new }
-        ensures images { LeavesStored D.told self.old store.old store.new
-            (arrival_of arrival.entry) }
-        ensures still { is_down self.old ≡ true → store.new ≡ store.old }
-        ensures silent { is_down self.old ≡ true → reply_in (ask_with (row_of self.old) self.new head.new result)
-            ≡ None }
-        ensures acknowledged { KeepsAcknowledged D.told (row_of self.old)
-            (reply_in (ask_with (row_of self.old) self.new head.new result))
-            (low_disk store.new) }
-        ensures lawful { IfSome head.new.reply IsLawfulReply }
-
-        ensures hand { HandBegins self.old self.new (arrival_of arrival.entry) (ask_with (row_of self.old) self.new
-            head.new result) }
-        ensures fits { (l : Low) → FitsEnd self.old l → FitsEnd self.new l }
-        ensures row { row_of self.new ≡ row_of self.old }
-        ensures last { last_of self.new ≡ moment }
+        ensures { FirstHalf D.told self.old self.new store.old store.new moment word (arrival_of arrival.entry)
+            (ask_with (row_of self.old) self.new head.new result) (IfSome head.new.reply IsLawfulReply) }
     {
         let message = self.wanted(&arrival);
         let is_fault = store_message(message, store);
@@ -107,21 +90,8 @@ impl LowProcess {
         requires lawful { IsLawful (arrival_of arrival) }
         requires store { HasStore D.told self.old store.old }
 
-        ensures begins { (is_fault : Bool) × BeginStep D.told self.old self.new store.old store.new
-            moment word (arrival_of arrival.entry) is_fault result }
-        ensures store { HasStore D.told self.new store.new }
-        ensures images { LeavesStored D.told self.old store.old store.new
-            (arrival_of arrival.entry) }
-        ensures still { is_down self.old ≡ true → store.new ≡ store.old }
-        ensures silent { is_down self.old ≡ true → reply_in result ≡ None }
-        ensures acknowledged { KeepsAcknowledged D.told (row_of self.old) (reply_in result)
-            (low_disk store.new) }
-        ensures lawful { IfSome (reply_in result) IsLawfulFrame }
-
-        ensures hand { HandBegins self.old self.new (arrival_of arrival.entry) result }
-        ensures fits { (l : Low) → FitsEnd self.old l → FitsEnd self.new l }
-        ensures row { row_of self.new ≡ row_of self.old }
-        ensures last { last_of self.new ≡ moment }
+        ensures { FirstHalf D.told self.old self.new store.old store.new moment word (arrival_of arrival.entry) result
+            (IfSome (reply_in result) IsLawfulFrame) }
     {
         let mut head = LookHead::new();
         let asked = self.begin_into(moment, word, arrival, store, &mut head);

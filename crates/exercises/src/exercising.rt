@@ -25,7 +25,7 @@ use disk_model::PlainDisk;
 use pump_core::Reply;
 use pump_frame::{OutOfMemory, SessionRow};
 use pump_link::{Sink, write_all};
-use script_reader::{Body, EventHead, Generator, Line, LineHead};
+use script_reader::{Act, Body, EventHead, Generator, Line, LineHead};
 use script_replay::Ended;
 use std::alloc::{AllocError, Global};
 use two_worlds::Pump;
@@ -49,7 +49,10 @@ fn word_of(line: &LineHead) -> u32
     ensures { (bytes : List ℕ) → result ≡ look_word (line_with bytes line.now) }
 {
     match line {
-        LineHead::Look { word, .. } => *word,
+        LineHead::At {
+            act: Act::Look { word, .. },
+            ..
+        } => *word,
         _ => 0,
     }
 }
@@ -57,7 +60,13 @@ fn word_of(line: &LineHead) -> u32
 fn is_look(line: &LineHead) -> bool
     ensures { (bytes : List ℕ) → (if result then 1 else 0) ≡ look_count (line_with bytes line.now) }
 {
-    matches!(line, LineHead::Look { .. })
+    matches!(
+        line,
+        LineHead::At {
+            act: Act::Look { .. },
+            ..
+        }
+    )
 }
 
 impl Tally {

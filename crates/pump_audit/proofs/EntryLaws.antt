@@ -22,9 +22,11 @@ use Rattle.pump_audit.specs.declared.entry.Coming.TheVariants as coming
 use Rattle.pump_audit.specs.declared.entry.LookLine.{LookLine}
 use Rattle.pump_audit.specs.declared.entry.Entry.{Entry}
 use Rattle.pump_audit.specs.declared.entry.Entry.TheVariants as entries
+use Rattle.script_reader.specs.declared.head.Act.{Act}
+use Rattle.script_reader.specs.declared.head.Act.TheVariants as acts
 use Rattle.script_reader.specs.declared.head.LineHead.{LineHead}
 use Rattle.script_reader.specs.declared.head.LineHead.TheVariants as heads
-use Rattle.script_reader.specs.Heads.{line_with}
+use Rattle.script_reader.specs.Heads.{act_with, line_with}
 use Rattle.script_reader.specs.Grammar.{IsLine, IsSkipped}
 use Rattle.script_reader.specs.Lawful.{IsLawfulLine, IsLawfulFeedback}
 use Rattle.pump_audit.specs.declared.entry.Note.{Note}
@@ -208,18 +210,21 @@ no_entry text none (entries.Coarse s) h = none _ h
 no_entry text none (entries.Look l) h = none _ h.0
 no_entry text none (entries.Comment note) h = none lines.Skip (is_skipped note text h.1 h.2)
 
+timed : (bytes : List ℕ) (session moment : ℕ) (act : Act) → act_with bytes session moment act ≡ lines.Skip → ⊥
+timed bytes session moment (acts.Look word arrival) e = cc
+timed bytes session moment (acts.Told word fault feedback arrival) e = cc
+timed bytes session moment (acts.Step word) e = cc
+timed bytes session moment acts.Gone e = cc
+timed bytes session moment acts.High e = cc
+timed bytes session moment (acts.Return back) e = cc
+timed bytes session moment (acts.Done time) e = cc
+timed bytes session moment acts.Restart e = cc
+timed bytes session moment acts.ReceiverRestart e = cc
+
 pub skip_head : (bytes : List ℕ) (head : LineHead) → line_with bytes head ≡ lines.Skip → head ≡ heads.Skip
 skip_head bytes heads.Skip e = refl
 skip_head bytes (heads.Session row) e = absurd (cc)
 skip_head bytes (heads.LowSession row next held) e = absurd (cc)
 skip_head bytes (heads.Coarse session) e = absurd (cc)
-skip_head bytes (heads.Look session moment word arrival) e = absurd (cc)
-skip_head bytes (heads.Told session moment word fault feedback arrival) e = absurd (cc)
-skip_head bytes (heads.Gone session moment) e = absurd (cc)
-skip_head bytes (heads.High session moment) e = absurd (cc)
 skip_head bytes (heads.Carry session back) e = absurd (cc)
-skip_head bytes (heads.Return session moment back) e = absurd (cc)
-skip_head bytes (heads.Done session moment time) e = absurd (cc)
-skip_head bytes (heads.Step session moment word) e = absurd (cc)
-skip_head bytes (heads.Restart session moment) e = absurd (cc)
-skip_head bytes (heads.ReceiverRestart session moment) e = absurd (cc)
+skip_head bytes (heads.At session moment act) e = absurd (timed bytes session moment act e)

@@ -5,7 +5,7 @@ ghost use Rattle.pump_frame.specs.Spellings.{spelling};
 ghost use Rattle.pump_frame.specs.declared.frame.Frame.{Frame as FrameValue};
 ghost use Rattle.script_reader.specs.declared.line.Line.{Line};
 ghost use Rattle.script_reader.specs.Grammar.{IsLine};
-ghost use Rattle.script_reader.specs.Heads.{arriving_with, line_with};
+ghost use Rattle.script_reader.specs.Heads.{arriving_with, act_with, line_with};
 ghost use Rattle.script_reader.specs.Lawful.{IsLawfulLine};
 ghost use Rattle.pump_audit.specs.declared.entry.Coming.{Coming};
 ghost use Rattle.pump_audit.specs.Entries.{IsEntry};
@@ -14,7 +14,7 @@ ghost use Rattle.pump_audit.specs.Noting.{IsComing, IsScript, IsSmall};
 use crate::entry::{Entry, LookLine, Offer, Offered};
 use crate::notes::read_note;
 use pump_frame::{Frame, Reader, Step};
-use script_reader::{ArrivingHead, Body, LineHead, ToldFeedback, read_head};
+use script_reader::{Act, ArrivingHead, Body, LineHead, ToldFeedback, read_head};
 
 /// What the lines of a record are read into, one after the other. One room serves a whole record.
 #[derive(Drop)]
@@ -79,6 +79,43 @@ fn read_coming<'a>(arrival: &ArrivingHead, bytes: &[u8], room: &'a mut Frame) ->
     }
 }
 
+/// The look of a record that a line of this session and moment is.
+fn read_look<'a>(
+    session: u32,
+    moment: u64,
+    act: &Act,
+    bytes: &[u8],
+    room: &'a mut Frame,
+) -> Option<Entry<'a>>
+    ensures found { IfSome result (λ e. IsScript e (act_with bytes.now session moment act.now)) }
+    ensures only { (e : Entry) → IsScript e (act_with bytes.now session moment act.now) → result ≡ Some e }
+{
+    match act {
+        Act::Told {
+            word,
+            fault,
+            feedback,
+            arrival,
+        } => Some(Entry::Look(LookLine {
+            session,
+            moment,
+            word: *word,
+            is_fault: *fault,
+            told: *feedback,
+            coming: read_coming(arrival, bytes, room)?,
+        })),
+        Act::Gone => Some(Entry::Look(LookLine {
+            session,
+            moment,
+            word: 0,
+            is_fault: false,
+            told: ToldFeedback::Quiet,
+            coming: Offered::new(Offer::Gone),
+        })),
+        _ => None,
+    }
+}
+
 /// The line of a record that this line of a script is, but for comments.
 fn read_script<'a>(head: &LineHead, bytes: &[u8], room: &'a mut Frame) -> Option<Entry<'a>>
     ensures found { IfSome result (λ e. IsScript e (line_with bytes.now head.now)) }
@@ -96,29 +133,11 @@ fn read_script<'a>(head: &LineHead, bytes: &[u8], room: &'a mut Frame) -> Option
             })
         }
         LineHead::Coarse { session } => Some(Entry::Coarse { session: *session }),
-        LineHead::Told {
+        LineHead::At {
             session,
             moment,
-            word,
-            fault,
-            feedback,
-            arrival,
-        } => Some(Entry::Look(LookLine {
-            session: *session,
-            moment: *moment,
-            word: *word,
-            is_fault: *fault,
-            told: *feedback,
-            coming: read_coming(arrival, bytes, room)?,
-        })),
-        LineHead::Gone { session, moment } => Some(Entry::Look(LookLine {
-            session: *session,
-            moment: *moment,
-            word: 0,
-            is_fault: false,
-            told: ToldFeedback::Quiet,
-            coming: Offered::new(Offer::Gone),
-        })),
+            act,
+        } => read_look(*session, *moment, act, bytes, room),
         _ => None,
     }
 }

@@ -9,7 +9,7 @@ ghost use Rattle.script_reader.specs.Heads.{line_with};
 ghost use Rattle.pump_chain.specs.Chained.{is_look, is_reply as replies, is_welcome as welcomes, sender_after, unsent};
 
 use pump_core::Reply;
-use script_reader::{EventHead, LineHead};
+use script_reader::{Act, EventHead, LineHead};
 
 /// What the sender between two pumps knows of its frames.
 #[derive(Clone, Copy)]
@@ -98,20 +98,18 @@ impl Sender {
         if !is_applied {
             return;
         }
-        match line {
-            LineHead::Gone { .. } | LineHead::Restart { .. } => *self = Sender::new(),
-            LineHead::Skip
-            | LineHead::Session(_)
-            | LineHead::LowSession { .. }
-            | LineHead::Coarse { .. }
-            | LineHead::Look { .. }
-            | LineHead::Told { .. }
-            | LineHead::Step { .. }
-            | LineHead::High { .. }
-            | LineHead::Carry { .. }
-            | LineHead::Return { .. }
-            | LineHead::Done { .. }
-            | LineHead::ReceiverRestart { .. } => {}
+        let LineHead::At { act, .. } = line else {
+            return;
+        };
+        match act {
+            Act::Gone | Act::Restart => *self = Sender::new(),
+            Act::Look { .. }
+            | Act::Told { .. }
+            | Act::Step { .. }
+            | Act::High
+            | Act::Return { .. }
+            | Act::Done { .. }
+            | Act::ReceiverRestart => {}
         }
     }
 }

@@ -5,7 +5,7 @@ ghost use Rattle.script_reader.specs.Heads.{line_with};
 ghost use Rattle.pump_chain.specs.Chained.{is_look};
 ghost use Rattle.pump_chain.specs.Private.{IsWhose};
 
-use script_reader::LineHead;
+use script_reader::{Act, LineHead};
 
 /// What a line is to a chain of two pumps.
 #[derive(Clone, Copy)]
@@ -42,40 +42,36 @@ pub fn find_whose(line: &LineHead, first: u32, second: u32) -> Whose
     ensures is { (bytes : List ℕ) → IsWhose first second (line_with bytes line.now) result }
     ensures seconds { result ≡ Whose.Seconds → (bytes : List ℕ) → is_look (line_with bytes line.now) ≡ false }
 {
-    match line {
+    match *line {
         LineHead::Skip => Whose::Nobodys,
-        LineHead::Session(_) | LineHead::LowSession { .. } | LineHead::Told { .. } => {
-            Whose::NoChains
-        }
+        LineHead::Session(_) | LineHead::LowSession { .. } => Whose::NoChains,
         LineHead::Coarse { session } => of(
-            *session,
+            session,
             first,
             second,
             Whose::CoarsensFirst,
             Whose::CoarsensSecond,
         ),
-        LineHead::Look { session, .. } => {
-            of(*session, first, first, Whose::Firsts, Whose::NoChains)
+        LineHead::Carry { session, .. } => {
+            of(session, first, second, Whose::Firsts, Whose::Seconds)
         }
-        LineHead::Step {
+        LineHead::At {
             session,
             moment,
-            word,
-        } => {
-            let look = Whose::Senders {
-                moment: *moment,
-                word: *word,
-            };
-            of(*session, second, second, look, Whose::NoChains)
-        }
-        LineHead::Gone { session, .. }
-        | LineHead::High { session, .. }
-        | LineHead::Carry { session, .. }
-        | LineHead::Return { session, .. }
-        | LineHead::Done { session, .. }
-        | LineHead::Restart { session, .. }
-        | LineHead::ReceiverRestart { session, .. } => {
-            of(*session, first, second, Whose::Firsts, Whose::Seconds)
-        }
+            ref act,
+        } => match *act {
+            Act::Told { .. } => Whose::NoChains,
+            Act::Look { .. } => of(session, first, first, Whose::Firsts, Whose::NoChains),
+            Act::Step { word } => {
+                let look = Whose::Senders { moment, word };
+                of(session, second, second, look, Whose::NoChains)
+            }
+            Act::Gone
+            | Act::High
+            | Act::Return { .. }
+            | Act::Done { .. }
+            | Act::Restart
+            | Act::ReceiverRestart => of(session, first, second, Whose::Firsts, Whose::Seconds),
+        },
     }
 }

@@ -6,7 +6,7 @@ use disk_model::Role;
 use pump_frame::Payload;
 use pump_link::MemSource;
 use script_reader::{
-    Body, Event, EventHead, Fault, LineHead, LinedHead, Lines, append_head, print_event,
+    Act, Body, Event, EventHead, Fault, LineHead, LinedHead, Lines, append_head, print_event,
     print_fault, print_head,
 };
 use std::alloc::AllocError;
@@ -105,7 +105,13 @@ fn openings_with_the_greatest_numbers_have_their_lines(rt: HostRuntime) {
 // The next line that is a `high` line's moment, 0 for a skipped line, 1 for a failed read, and 2 else.
 fn next_of(lines: &mut Lines, source: &mut MemSource, body: &mut Body) -> u64 {
     match lines.next_head(source, body) {
-        LinedHead::Line(LineHead::High { moment, .. }) => moment,
+        LinedHead::Line(
+            LineHead::At {
+                moment,
+                act: Act::High,
+                ..
+            },
+        ) => moment,
         LinedHead::Line(LineHead::Skip) => 0,
         LinedHead::Failed => 1,
         _ => 2,

@@ -8,7 +8,7 @@ use Rattle.disk_model.proofs.Run.{goes_on_same, started}
 use Rattle.pump_link.specs.Causes.{AppendsPrefix}
 use Rattle.stable_buffer.specs.Log.{RecvStands}
 use Rattle.stable_buffer.proofs.Cells.{value-selects}
-use Rattle.high_receiver.specs.Receiving.{IsRecvReady, recv_count, recv_disk, recv_end, recv_row, recv_size}
+use Rattle.high_receiver.specs.Receiving.{IsRecvReady, KeepsLog, recv_count, recv_disk, recv_row}
 use Rattle.high_receiver.specs.declared.receiver.Receiver.{Receiver}
 use Rattle.high_receiver.proofs.Appends.{end_is}
 use Rattle.pump_wrapper.specs.Receivers.{ReadsReceiver}
@@ -28,15 +28,15 @@ kept_first m receiver = record {
   counts = omega arith;
 }
 
-pub kept_on : {D : Type 0} (m : Meaning D) (old mid new : Receiver D) → ReadsReceiver m old mid → recv_count new ≡ recv_count mid → recv_end new ≡ recv_end mid → recv_row new ≡ recv_row mid → recv_size new ≡ recv_size mid
-    → Moves m Same (recv_disk mid) (recv_disk new) → m.count (recv_disk mid) ≤ m.count (recv_disk new) → ReadsReceiver m old new
-kept_on m old mid new kept count end row size moves counts = record {
+pub kept_on : {D : Type 0} (m : Meaning D) (old mid new : Receiver D) → ReadsReceiver m old mid → KeepsLog m mid new
+    → m.count (recv_disk mid) ≤ m.count (recv_disk new) → ReadsReceiver m old new
+kept_on m old mid new kept now counts = record {
   log = record {
-    count = count ∙ kept.log.count;
-    end = end ∙ kept.log.end;
-    row = row ∙ kept.log.row;
-    size = size ∙ kept.log.size;
-    moves = goes_on_same m Same _ _ _ kept.log.moves moves;
+    count = now.count ∙ kept.log.count;
+    end = now.end ∙ kept.log.end;
+    row = now.row ∙ kept.log.row;
+    size = now.size ∙ kept.log.size;
+    moves = goes_on_same m Same _ _ _ kept.log.moves now.moves;
   };
   counts = omega (arith, kept.counts, counts);
 }

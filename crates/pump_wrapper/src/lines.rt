@@ -10,7 +10,7 @@ ghost use Rattle.pump_wrapper.specs.Sending.{Goes, pause as pause_of, turn_lines
 use arrayvec::ArrayVec;
 use disk_model::Disk;
 use pump_frame::{Payload, SessionRow};
-use script_reader::{ArrivingHead, LineHead};
+use script_reader::{Act, ArrivingHead, LineHead};
 use two_worlds::{Pump, Stop};
 
 /// A line is given to the pump.
@@ -43,11 +43,10 @@ fn look<D: Disk>(
         (arriving_with bytes.now arrival) ∷ []) result }
     ensures up { OnOk result (is_down pump.new ≡ false) }
 {
-    let line = LineHead::Look {
+    let line = LineHead::At {
         session: pump.row().id,
         moment,
-        word: 0,
-        arrival,
+        act: Act::Look { word: 0, arrival },
     };
     apply(pump, &line, bytes)
 }
@@ -59,10 +58,10 @@ fn done<D: Disk>(pump: &mut Pump<D>, moment: u64) -> Result<(), Stop>
     ensures goes { Goes D.told pump.old pump.new (lines.Done (row_of pump.old).id moment 1 ∷ []) result }
     ensures up { OnOk result (is_down pump.new ≡ false) }
 {
-    let line = LineHead::Done {
+    let line = LineHead::At {
         session: pump.row().id,
         moment,
-        time: 1,
+        act: Act::Done { time: 1 },
     };
     apply(pump, &line, &[])
 }

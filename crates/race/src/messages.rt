@@ -6,7 +6,7 @@ ghost use Rattle.script_reader.specs.Generated.{drawn, generated_row};
 ghost use Rattle.race.specs.Messages.{messages_in, hello_frame, data_frame};
 
 use pump_frame::{Frame, Kind, Payload, SessionRow};
-use script_reader::{ArrivingHead, Body, Generator, LineHead};
+use script_reader::{Act, ArrivingHead, Body, Generator, LineHead};
 
 /// What stands in the room of a frame before the first one.
 pub fn no_frame() -> Frame {
@@ -36,8 +36,11 @@ pub fn next_message(script: &mut Generator, body: &mut Body, into: &mut Frame) -
     ensures lawful { result ≡ true → IsLawful into.new }
 {
     'lines: while let Some(line) = script.next_head(body) {
-        if let LineHead::Look {
-            arrival: ArrivingHead::Data { number },
+        if let LineHead::At {
+            act: Act::Look {
+                arrival: ArrivingHead::Data { number },
+                ..
+            },
             ..
         } = line
         {

@@ -1,9 +1,7 @@
 -- Reading a line on lists is the grammar.
-use Rattle.std.proofs.Common.{◌≡◌, ℕ, ◌≤◌, inl, inr, true, false, cond, ltb, List, [], ◌∷◌, ◌++◌, Option, None, Some, IfSome, length, codes, decimal, refl, sym, ◌∙◌, subst, arith}
+use Rattle.std.proofs.Common.{◌≡◌, ℕ, ◌+◌, ◌^◌, ◌≤◌, inl, inr, true, false, ltb, List, [], ◌∷◌, ◌++◌, Option, None, Some, IfSome, length, codes, decimal, refl, sym, ◌∙◌, subst, arith}
 use Rattle.std.proofs.lemmas.Bool.{ltb-false, le-ltb, eqb-true, eq-eqb}
 use Rattle.std.proofs.lemmas.Option.{same_Some}
-use Rattle.std.proofs.lemmas.Slice.Eq.{bytes_eq-Decides}
-use Rattle.std.specs.Str.{bytes_eq}
 use Rattle.std.specs.List.{slice_split}
 use Rattle.std.proofs.lemmas.List.Splits.{join_with_byte-slice_split}
 use Rattle.script_reader.specs.declared.line.Line.{Line}
@@ -15,62 +13,44 @@ use Rattle.script_reader.specs.declared.line.ToldFeedback.{ToldFeedback}
 use Rattle.script_reader.specs.declared.line.ToldFeedback.TheVariants.{Quiet, Full, Pair}
 use Rattle.script_reader.specs.Grammar.{held_field, outcome_field, IsFeedback, spaced, row_fields, IsArriving, HasFields, IsSkipped, IsLine}
 use Rattle.script_reader.specs.Lawful.{IsLawfulArriving, IsLawfulFeedback, IsLawfulLine}
-use Rattle.script_reader.specs.Parsing.{session_of, low_session_of, coarse_of, look_of, told_of, gone_of, high_of, carry_of, return_of, done_of, restart_of, receiver_restart_of, stepped_of, numbered_step_of, plain_step_of, step_of, line_of, is_skipped, line_at}
+use Rattle.script_reader.specs.Parsing.{session_of, low_session_of, coarse_of, carry_of, numbered_act_at, plain_act_at, act_of, line_of, is_skipped, line_at}
 use Rattle.script_reader.proofs.Splits.{split_joined}
 use Rattle.script_reader.proofs.FieldChains.{chosen}
 use Rattle.script_reader.proofs.FreeFields.{free_text, free_word, free_decimal}
 use Rattle.script_reader.proofs.SessionLaws.{session_takes, session_put, low_session_takes, low_session_put, free_row, free_count}
-use Rattle.script_reader.proofs.LookLaws.{look_takes, look_put, free_arriving}
-use Rattle.script_reader.proofs.MomentLaws.{coarse_takes, coarse_put, gone_takes, gone_put, high_takes, high_put, carry_takes, carry_put, return_takes, return_put, done_takes, done_put, restart_takes, restart_put, receiver_restart_takes, stepped_takes, stepped_put, receiver_restart_put}
-use Rattle.script_reader.proofs.ToldLaws.{told_takes, told_put, free_told}
-
--- the word at the prefix decides: the fields after it, or the next word
-by_word : (w text : List ℕ) (fields : List (List ℕ)) (line : Line) (here later : Option Line) → cond (bytes_eq w text) here later ≡ Some line
-    → (here ≡ Some line → HasFields line (text ∷ fields)) → (later ≡ Some line → HasFields line (w ∷ fields)) → HasFields line (w ∷ fields)
-by_word w text fields line here later e same other =
-    elim (chosen (bytes_eq w text) here later line e) [
-      | inl p ↦ rw ((bytes_eq-Decides w text).0 p.0) (same p.1)
-      | inr p ↦ other p.1
-    ]
-
-step_takes : (w : List ℕ) (fields : List (List ℕ)) (line : Line) → step_of w fields ≡ Some line → HasFields line (w ∷ fields)
-unfolding step_of plain_step_of numbered_step_of
-step_takes w fields line e =
-    by_word w (codes "look") fields line (look_of fields) _ e (look_takes fields line) (λ e.
-    by_word w (codes "told") fields line (told_of fields) _ e (told_takes fields line) (λ e.
-    by_word w (codes "gone") fields line (gone_of fields) _ e (gone_takes fields line) (λ e.
-    by_word w (codes "high") fields line (high_of fields) _ e (high_takes fields line) (λ e.
-    by_word w (codes "restart") fields line (restart_of fields) _ e (restart_takes fields line) (λ e.
-    by_word w (codes "receiver-restart") fields line (receiver_restart_of fields) _ e (receiver_restart_takes fields line) (λ e.
-    by_word w (codes "carry") fields line (carry_of fields) _ e (carry_takes fields line) (λ e.
-    by_word w (codes "return") fields line (return_of fields) _ e (return_takes fields line) (λ e.
-    by_word w (codes "done") fields line (done_of fields) _ e (done_takes fields line) (λ e.
-    by_word w (codes "step") fields line (stepped_of fields) None e (stepped_takes fields line) (λ e. cc))))))))))
+use Rattle.script_reader.proofs.LookLaws.{look_put, free_arriving}
+use Rattle.script_reader.proofs.MomentLaws.{by_word, coarse_takes, coarse_put, carry_takes, carry_put, at_takes, at_put, with_number_put, with_word_put}
+use Rattle.script_reader.proofs.ToldLaws.{told_put, free_told}
 
 line_takes : (fields : List (List ℕ)) (line : Line) → line_of fields ≡ Some line → HasFields line fields
 unfolding line_of
 line_takes [] line e = cc
 line_takes (w ∷ fields) line e =
-    by_word w (codes "session") fields line (session_of fields) _ e (session_takes fields line) (λ e.
-    by_word w (codes "low-session") fields line (low_session_of fields) _ e (low_session_takes fields line) (λ e.
-    by_word w (codes "coarse") fields line (coarse_of fields) _ e (coarse_takes fields line) (step_takes w fields line)))
+    by_word w (codes "session") fields line line (session_of fields) _ e (session_takes fields line) (λ e.
+    by_word w (codes "low-session") fields line line (low_session_of fields) _ e (low_session_takes fields line) (λ e.
+    by_word w (codes "coarse") fields line line (coarse_of fields) _ e (coarse_takes fields line) (λ e.
+    by_word w (codes "carry") fields line line (carry_of fields) _ e (carry_takes fields line) (at_takes w fields line))))
 
 line_put : (line : Line) (fields : List (List ℕ)) → HasFields line fields → line_of fields ≡ Some line
-unfolding line_of step_of plain_step_of numbered_step_of
+unfolding line_of act_of plain_act_at numbered_act_at
 line_put Skip fields h = absurd h
 line_put (Session row) fields h = rw h.1 (session_put row h.0)
 line_put (LowSession row next held) fields h = rw h.2 (low_session_put row next held h.0 h.1)
 line_put (Coarse session) fields h = rw h.1 (coarse_put session h.0)
-line_put (Look session moment w arrival) fields h = rw h.6 (look_put session moment w h.2 arrival h.4 h.0 h.1 h.3 h.5)
-line_put (Told session moment w fault told arrival) fields h = rw h.8 (told_put session moment w h.2 fault told h.4 arrival h.6 h.0 h.1 h.3 h.5 h.7)
-line_put (Step session moment w) fields h = rw h.4 (stepped_put session moment w h.2 h.0 h.1 h.3)
-line_put (Gone session moment) fields h = rw h.2 (gone_put session moment h.0 h.1)
-line_put (High session moment) fields h = rw h.2 (high_put session moment h.0 h.1)
 line_put (Carry session back) fields h = rw h.2 (carry_put session back h.0 h.1)
-line_put (Return session moment back) fields h = rw h.3 (return_put session moment back h.0 h.1 h.2)
-line_put (Done session moment time) fields h = rw h.3 (done_put session moment time h.0 h.1 h.2)
-line_put (Restart session moment) fields h = rw h.2 (restart_put session moment h.0 h.1)
-line_put (ReceiverRestart session moment) fields h = rw h.2 (receiver_restart_put session moment h.0 h.1)
+line_put (Look session moment w arrival) fields h =
+    rw h.6 (at_put (codes "look") session moment (h.2 ∷ h.4) h.0 h.1 ∙ look_put session moment w h.2 arrival h.4 h.3 h.5)
+line_put (Told session moment w fault told arrival) fields h =
+    rw h.8 (at_put (codes "told") session moment (h.2 ∷ outcome_field fault ∷ h.4 ∷ h.6) h.0 h.1 ∙ told_put session moment w h.2 fault told h.4 arrival h.6 h.3 h.5 h.7)
+line_put (Step session moment w) fields h = rw h.4 (at_put (codes "step") session moment (h.2 ∷ []) h.0 h.1 ∙ with_word_put (Step session moment) w h.2 h.3)
+line_put (Gone session moment) fields h = rw h.2 (at_put (codes "gone") session moment [] h.0 h.1)
+line_put (High session moment) fields h = rw h.2 (at_put (codes "high") session moment [] h.0 h.1)
+line_put (Return session moment back) fields h =
+    rw h.3 (at_put (codes "return") session moment (decimal back ∷ []) h.0 h.1 ∙ with_number_put (Return session moment) (2 ^ 64) back h.2 (omega arith))
+line_put (Done session moment time) fields h =
+    rw h.3 (at_put (codes "done") session moment (decimal time ∷ []) h.0 h.1 ∙ with_number_put (Done session moment) (10 ^ 9 + 1) time (omega (arith, h.2)) (omega arith))
+line_put (Restart session moment) fields h = rw h.2 (at_put (codes "restart") session moment [] h.0 h.1)
+line_put (ReceiverRestart session moment) fields h = rw h.2 (at_put (codes "receiver-restart") session moment [] h.0 h.1)
 
 -- bytes that are a line's fields with one space between are split into them
 split_line : (line : Line) (fields : List (List ℕ)) → HasFields line fields → slice_split is_space (spaced fields) ≡ fields

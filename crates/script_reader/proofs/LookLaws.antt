@@ -1,5 +1,5 @@
 -- A look line on lists is the grammar's.
-use Rattle.std.proofs.Common.{◌≡◌, ℕ, ◌+◌, ◌^◌, ◌<◌, ◌≤◌, inl, inr, List, [], ◌∷◌, None, Some, codes, decimal, refl, ap, ◌∙◌, subst, arith}
+use Rattle.std.proofs.Common.{◌≡◌, ℕ, ◌^◌, ◌<◌, ◌≤◌, inl, inr, List, [], ◌∷◌, None, Some, codes, decimal, refl, ap, ◌∙◌, subst, arith}
 use Rattle.std.proofs.lemmas.Option.{same_Some}
 use Rattle.std.proofs.lemmas.Slice.Eq.{bytes_eq-Decides}
 use Rattle.std.specs.Str.{bytes_eq}
@@ -79,29 +79,27 @@ arriving_put (Hello low high) fields h = rw h.2 (hello_put low high h.0 h.1)
 arriving_put (Data n payload) fields h = rw h.3 (data_put n payload h.1 h.0 h.2)
 arriving_put (Raw bytes) fields h = rw h.2 (raw_line_put bytes h.0 h.1)
 
-pub look_takes : (fields : List (List ℕ)) (line : Line) → look_of fields ≡ Some line → HasFields line (codes "look" ∷ fields)
+pub look_takes : (session moment : ℕ) (fields : List (List ℕ)) (line : Line) → session < 2 ^ 32 → moment ≤ 2 ^ 62 → look_of session moment fields ≡ Some line
+    → HasFields line (codes "look" ∷ decimal session ∷ decimal moment ∷ fields)
 unfolding look_of
-look_takes fields line e =
-    take_number (2 ^ 32) fields _ line e (λ session fa ha ea e.
-    take_number (2 ^ 62 + 1) fa _ line e (λ moment fb hb eb e.
-    take_word fb _ line e (λ w hex fc hc ec e.
-    let p = bind_some (arriving_of fc) _ line e in
-    subst (λ l. HasFields l (codes "look" ∷ fields)) (same_Some _ line p.2) (
-      ha,
-      omega (arith, hb),
+look_takes session moment fields line hs hm e =
+    take_word fields _ line e (λ w hex rest hw ew e.
+    let p = bind_some (arriving_of rest) _ line e in
+    subst (λ l. HasFields l (codes "look" ∷ decimal session ∷ decimal moment ∷ fields)) (same_Some _ line p.2) (
+      hs,
+      hm,
       hex,
-      hc,
-      fc,
-      arriving_takes fc p.0 p.1,
-      rw (ea, eb, ec) refl,
+      hw,
+      rest,
+      arriving_takes rest p.0 p.1,
+      rw ew refl,
     )
-    )))
+    )
 
-pub look_put : (session moment w : ℕ) (hex : List ℕ) (arrival : Arriving) (rest : List (List ℕ)) → session < 2 ^ 32 → moment ≤ 2 ^ 62 → IsWord w hex → IsArriving arrival rest
-    → look_of (decimal session ∷ decimal moment ∷ hex ∷ rest) ≡ Some (Look session moment w arrival)
+pub look_put : (session moment w : ℕ) (hex : List ℕ) (arrival : Arriving) (rest : List (List ℕ)) → IsWord w hex → IsArriving arrival rest
+    → look_of session moment (hex ∷ rest) ≡ Some (Look session moment w arrival)
 unfolding look_of
-look_put session moment w hex arrival rest hs hm hw ha =
-    rw (number_put (2 ^ 32) session _ hs (omega arith), number_put (2 ^ 62 + 1) moment _ (omega arith) (omega arith), word_put w hex rest hw, arriving_put arrival rest ha) refl
+look_put session moment w hex arrival rest hw ha = rw (word_put w hex rest hw, arriving_put arrival rest ha) refl
 
 pub free_arriving : (arrival : Arriving) (fields : List (List ℕ)) → IsArriving arrival fields → AreFree fields
 free_arriving Nothing fields h = rw h tt

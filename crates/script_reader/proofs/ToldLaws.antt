@@ -15,10 +15,10 @@ use Rattle.script_reader.specs.declared.line.Arriving.{Arriving}
 use Rattle.script_reader.specs.declared.line.ToldFeedback.{ToldFeedback}
 use Rattle.script_reader.specs.declared.line.ToldFeedback.TheVariants.{Quiet, Full, Pair}
 use Rattle.script_reader.specs.Grammar.{IsWord, IsArriving, IsFeedback, outcome_field, HasFields}
-use Rattle.script_reader.specs.Parsing.{number, choice, is_slash, pair, feedback, arriving_of, told_behind, told_of}
+use Rattle.script_reader.specs.Parsing.{number, choice, is_slash, pair, feedback, arriving_of, told_of}
 use Rattle.script_reader.proofs.Splits.{IsFree, AreFree}
 use Rattle.script_reader.proofs.FieldLaws.{number_takes, number_again, choice_takes}
-use Rattle.script_reader.proofs.FieldChains.{bind_some, chosen, take_number, take_word, take_field, number_put, word_put, field_put}
+use Rattle.script_reader.proofs.FieldChains.{bind_some, chosen, take_word, take_field, word_put, field_put}
 use Rattle.script_reader.proofs.FreeFields.{free_text, free_word, free_decimal, digits_without}
 use Rattle.script_reader.proofs.LookLaws.{arriving_takes, arriving_put, free_arriving}
 
@@ -129,36 +129,33 @@ free_outcome false = free_text (codes "fine") refl
 
 -- ---- the line ----
 
-pub told_takes : (fields : List (List ℕ)) (line : Line) → told_of fields ≡ Some line → HasFields line (codes "told" ∷ fields)
-unfolding told_of told_behind
-told_takes fields line e =
-    take_number (2 ^ 32) fields _ line e (λ session fa ha ea e.
-    take_number (2 ^ 62 + 1) fa _ line e (λ moment fb hb eb e.
-    take_word fb _ line e (λ w hex fc hc ec e.
+pub told_takes : (session moment : ℕ) (fields : List (List ℕ)) (line : Line) → session < 2 ^ 32 → moment ≤ 2 ^ 62 → told_of session moment fields ≡ Some line
+    → HasFields line (codes "told" ∷ decimal session ∷ decimal moment ∷ fields)
+unfolding told_of
+told_takes session moment fields line hs hm e =
+    take_word fields _ line e (λ w hex fc hc ec e.
     take_field (choice (codes "fine") (codes "fault")) fc _ line e (λ fault outcome fd hd ed e.
     take_field feedback fd _ line e (λ told field ff hf ef e.
     let p = bind_some (arriving_of ff) _ line e in
-    subst (λ l. HasFields l (codes "told" ∷ fields)) (same_Some _ line p.2) (
-      ha,
-      omega (arith, hb),
+    subst (λ l. HasFields l (codes "told" ∷ decimal session ∷ decimal moment ∷ fields)) (same_Some _ line p.2) (
+      hs,
+      hm,
       hex,
       hc,
       field,
       feedback_takes field told hf,
       ff,
       arriving_takes ff p.0 p.1,
-      rw (ea, eb, ec, ed, outcome_takes outcome fault hd, ef) refl,
+      rw (ec, ed, outcome_takes outcome fault hd, ef) refl,
     )
-    )))))
+    )))
 
 pub told_put : (session moment w : ℕ) (hex : List ℕ) (fault : Bool) (told : ToldFeedback) (field : List ℕ) (arrival : Arriving) (rest : List (List ℕ))
-    → session < 2 ^ 32 → moment ≤ 2 ^ 62 → IsWord w hex → IsFeedback told field → IsArriving arrival rest
-    → told_of (decimal session ∷ decimal moment ∷ hex ∷ outcome_field fault ∷ field ∷ rest) ≡ Some (Told session moment w fault told arrival)
-unfolding told_of told_behind
-told_put session moment w hex fault told field arrival rest hs hm hw ht ha =
+    → IsWord w hex → IsFeedback told field → IsArriving arrival rest
+    → told_of session moment (hex ∷ outcome_field fault ∷ field ∷ rest) ≡ Some (Told session moment w fault told arrival)
+unfolding told_of
+told_put session moment w hex fault told field arrival rest hw ht ha =
     rw (
-      number_put (2 ^ 32) session _ hs (omega arith),
-      number_put (2 ^ 62 + 1) moment _ (omega arith) (omega arith),
       word_put w hex _ hw,
       field_put (choice (codes "fine") (codes "fault")) (outcome_field fault) fault _ (outcome_again fault),
       field_put feedback field told rest (feedback_again told field ht),

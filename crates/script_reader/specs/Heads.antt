@@ -10,10 +10,11 @@ use Rattle.script_reader.specs.declared.lines.Lined.{Lined}
 use Rattle.script_reader.specs.declared.lines.Lined.TheVariants as lined
 use Rattle.script_reader.specs.declared.head.LinedHead.{LinedHead}
 use Rattle.script_reader.specs.declared.head.LinedHead.TheVariants as heads
+use Rattle.script_reader.specs.declared.head.Act.{Act}
+use Rattle.script_reader.specs.declared.head.Act.TheVariants.{Look, Told, Step, Gone, High, Return, Done, Restart}
+use Rattle.script_reader.specs.declared.head.Act.TheVariants.{ReceiverRestart}
 use Rattle.script_reader.specs.declared.head.LineHead.{LineHead}
-use Rattle.script_reader.specs.declared.head.LineHead.TheVariants.{Skip, Session, LowSession, Coarse, Look, Told, Step}
-use Rattle.script_reader.specs.declared.head.LineHead.TheVariants.{Gone, High, Carry, Return, Done, Restart}
-use Rattle.script_reader.specs.declared.head.LineHead.TheVariants.{ReceiverRestart}
+use Rattle.script_reader.specs.declared.head.LineHead.TheVariants.{Skip, Session, LowSession, Coarse, Carry, At}
 
 abbrev pub arriving_with : List ℕ → ArrivingHead → Arriving
 arriving_with bytes Nothing = arriving.Nothing
@@ -21,22 +22,26 @@ arriving_with bytes (Hello low high) = arriving.Hello low high
 arriving_with bytes (Data number) = arriving.Data number bytes
 arriving_with bytes Raw = arriving.Raw (record { items = bytes })
 
+-- the line of a session and a moment
+abbrev pub act_with : List ℕ → ℕ → ℕ → Act → Line
+act_with bytes session moment (Look word arrival) = line.Look session moment word (arriving_with bytes arrival)
+act_with bytes session moment (Told word fault feedback arrival) = line.Told session moment word fault feedback
+    (arriving_with bytes arrival)
+act_with bytes session moment (Step word) = line.Step session moment word
+act_with bytes session moment Gone = line.Gone session moment
+act_with bytes session moment High = line.High session moment
+act_with bytes session moment (Return back) = line.Return session moment back
+act_with bytes session moment (Done time) = line.Done session moment time
+act_with bytes session moment Restart = line.Restart session moment
+act_with bytes session moment ReceiverRestart = line.ReceiverRestart session moment
+
 abbrev pub line_with : List ℕ → LineHead → Line
 line_with bytes Skip = line.Skip
 line_with bytes (Session row) = line.Session row
 line_with bytes (LowSession row next held) = line.LowSession row next held
 line_with bytes (Coarse session) = line.Coarse session
-line_with bytes (Look session moment word arrival) = line.Look session moment word (arriving_with bytes arrival)
-line_with bytes (Told session moment word fault feedback arrival) = line.Told session moment word fault feedback
-    (arriving_with bytes arrival)
-line_with bytes (Step session moment word) = line.Step session moment word
-line_with bytes (Gone session moment) = line.Gone session moment
-line_with bytes (High session moment) = line.High session moment
 line_with bytes (Carry session back) = line.Carry session back
-line_with bytes (Return session moment back) = line.Return session moment back
-line_with bytes (Done session moment time) = line.Done session moment time
-line_with bytes (Restart session moment) = line.Restart session moment
-line_with bytes (ReceiverRestart session moment) = line.ReceiverRestart session moment
+line_with bytes (At session moment act) = act_with bytes session moment act
 
 -- a payload has at most 1024 bytes, and raw bytes are at most 1042
 abbrev pub CanHold : ArrivingHead → List ℕ → Type 0
@@ -45,21 +50,14 @@ CanHold (Hello low high) bytes = Unit {0}
 CanHold (Data number) bytes = length bytes ≤ 1024
 CanHold Raw bytes = length bytes ≤ 1042
 
+abbrev pub CanHoldAct : Act → List ℕ → Type 0
+CanHoldAct (Look word arrival) bytes = CanHold arrival bytes
+CanHoldAct (Told word fault feedback arrival) bytes = CanHold arrival bytes
+CanHoldAct _ bytes = Unit {0}
+
 abbrev pub CanHoldLine : LineHead → List ℕ → Type 0
-CanHoldLine (Look session moment word arrival) bytes = CanHold arrival bytes
-CanHoldLine (Told session moment word fault feedback arrival) bytes = CanHold arrival bytes
-CanHoldLine Skip bytes = Unit {0}
-CanHoldLine (Session row) bytes = Unit {0}
-CanHoldLine (LowSession row next held) bytes = Unit {0}
-CanHoldLine (Coarse session) bytes = Unit {0}
-CanHoldLine (Gone session moment) bytes = Unit {0}
-CanHoldLine (High session moment) bytes = Unit {0}
-CanHoldLine (Carry session back) bytes = Unit {0}
-CanHoldLine (Return session moment back) bytes = Unit {0}
-CanHoldLine (Done session moment time) bytes = Unit {0}
-CanHoldLine (Restart session moment) bytes = Unit {0}
-CanHoldLine (ReceiverRestart session moment) bytes = Unit {0}
-CanHoldLine (Step session moment word) bytes = Unit {0}
+CanHoldLine (At session moment act) bytes = CanHoldAct act bytes
+CanHoldLine _ bytes = Unit {0}
 
 abbrev pub lined_with : List ℕ → LinedHead → Lined
 lined_with bytes (heads.Line line) = lined.Line (line_with bytes line)

@@ -191,115 +191,81 @@ arriving_of (word ∷ fields) =
     else if bytes_eq word (codes "raw") then raw_of fields
     else None
 
-unfoldable pub look_of : List (List ℕ) → Option Line
-look_of fields = do
-  session ← field_at (number (2 ^ 32)) fields
-  moment ← field_at (number (2 ^ 62 + 1)) session.1
-  hex ← field_at word moment.1
-  arrival ← arriving_of hex.1
-  Some (Look session.0 moment.0 hex.0 arrival)
-
--- a told look, behind its session, its moment and its word
-unfoldable pub told_behind : ℕ → ℕ → ℕ → List (List ℕ) → Option Line
-told_behind session moment word fields = do
-  fault ← field_at (choice (codes "fine") (codes "fault")) fields
-  told ← field_at feedback fault.1
-  arrival ← arriving_of told.1
-  Some (Told session moment word fault.0 told.0 arrival)
-
-unfoldable pub told_of : List (List ℕ) → Option Line
-told_of fields = do
-  session ← field_at (number (2 ^ 32)) fields
-  moment ← field_at (number (2 ^ 62 + 1)) session.1
-  hex ← field_at word moment.1
-  told_behind session.0 moment.0 hex.0 hex.1
-
-unfoldable pub stepped_of : List (List ℕ) → Option Line
-stepped_of fields = do
-  session ← field_at (number (2 ^ 32)) fields
-  moment ← field_at (number (2 ^ 62 + 1)) session.1
-  hex ← field_at word moment.1
-  at_end (Step session.0 moment.0 hex.0) hex.1
-
--- a session and a moment, and no field after them
-unfoldable pub session_and_moment : List (List ℕ) → Option (ℕ × ℕ)
-session_and_moment fields = do
-  session ← field_at (number (2 ^ 32)) fields
-  moment ← field_at (number (2 ^ 62 + 1)) session.1
-  at_end (session.0, moment.0) moment.1
-
-unfoldable pub gone_of : List (List ℕ) → Option Line
-gone_of fields = do
-  at ← session_and_moment fields
-  Some (Gone at.0 at.1)
-
-unfoldable pub high_of : List (List ℕ) → Option Line
-high_of fields = do
-  at ← session_and_moment fields
-  Some (High at.0 at.1)
-
-unfoldable pub restart_of : List (List ℕ) → Option Line
-restart_of fields = do
-  at ← session_and_moment fields
-  Some (Restart at.0 at.1)
-
-unfoldable pub receiver_restart_of : List (List ℕ) → Option Line
-receiver_restart_of fields = do
-  at ← session_and_moment fields
-  Some (ReceiverRestart at.0 at.1)
-
 unfoldable pub carry_of : List (List ℕ) → Option Line
 carry_of fields = do
   session ← field_at (number (2 ^ 32)) fields
   back ← field_at (number (2 ^ 64)) session.1
   at_end (Carry session.0 back.0) back.1
 
-unfoldable pub return_of : List (List ℕ) → Option Line
-return_of fields = do
-  session ← field_at (number (2 ^ 32)) fields
-  moment ← field_at (number (2 ^ 62 + 1)) session.1
-  back ← field_at (number (2 ^ 64)) moment.1
-  at_end (Return session.0 moment.0 back.0) back.1
+-- ---- lines that have a moment ----
+-- Each is told its session and its moment, and reads the fields behind them.
 
-unfoldable pub done_of : List (List ℕ) → Option Line
-done_of fields = do
-  session ← field_at (number (2 ^ 32)) fields
-  moment ← field_at (number (2 ^ 62 + 1)) session.1
-  time ← field_at (number (10 ^ 9 + 1)) moment.1
-  at_end (Done session.0 moment.0 time.0) time.1
+unfoldable pub look_of : ℕ → ℕ → List (List ℕ) → Option Line
+look_of session moment fields = do
+  hex ← field_at word fields
+  arrival ← arriving_of hex.1
+  Some (Look session moment hex.0 arrival)
 
--- a line of a session, a moment or none, and one number
-unfoldable pub numbered_step_of : List ℕ → List (List ℕ) → Option Line
-numbered_step_of word fields =
-    if bytes_eq word (codes "carry") then carry_of fields
-    else if bytes_eq word (codes "return") then return_of fields
-    else if bytes_eq word (codes "done") then done_of fields
-    else if bytes_eq word (codes "step") then stepped_of fields
+unfoldable pub told_of : ℕ → ℕ → List (List ℕ) → Option Line
+told_of session moment fields = do
+  hex ← field_at word fields
+  fault ← field_at (choice (codes "fine") (codes "fault")) hex.1
+  told ← field_at feedback fault.1
+  arrival ← arriving_of told.1
+  Some (Told session moment hex.0 fault.0 told.0 arrival)
+
+abbrev pub with_number : (ℕ → Line) → Option (ℕ × List (List ℕ)) → Option (Line × List (List ℕ))
+with_number line read = do
+  number ← read
+  Some (line number.0, number.1)
+
+-- one with a number, and the fields after it
+unfoldable pub numbered_act_at : List ℕ → ℕ → ℕ → List (List ℕ) → Option (Line × List (List ℕ))
+numbered_act_at name session moment fields =
+    if bytes_eq name (codes "return") then with_number (Return session moment) (field_at (number (2 ^ 64)) fields)
+    else if bytes_eq name (codes "done") then with_number (Done session moment)
+    (field_at (number (10 ^ 9 + 1)) fields)
+    else if bytes_eq name (codes "step") then with_number (Step session moment) (field_at word fields)
     else None
 
--- a line of a session and a moment, or of one number more
-unfoldable pub plain_step_of : List ℕ → List (List ℕ) → Option Line
-plain_step_of word fields =
-    if bytes_eq word (codes "gone") then gone_of fields
-    else if bytes_eq word (codes "high") then high_of fields
-    else if bytes_eq word (codes "restart") then restart_of fields
-    else if bytes_eq word (codes "receiver-restart") then receiver_restart_of fields
-    else numbered_step_of word fields
+-- .. or with none
+unfoldable pub plain_act_at : List ℕ → ℕ → ℕ → List (List ℕ) → Option (Line × List (List ℕ))
+plain_act_at name session moment fields =
+    if bytes_eq name (codes "gone") then Some (Gone session moment, fields)
+    else if bytes_eq name (codes "high") then Some (High session moment, fields)
+    else if bytes_eq name (codes "restart") then Some (Restart session moment, fields)
+    else if bytes_eq name (codes "receiver-restart") then Some (ReceiverRestart session moment, fields)
+    else numbered_act_at name session moment fields
 
--- a line of a session that has begun
-unfoldable pub step_of : List ℕ → List (List ℕ) → Option Line
-step_of word fields =
-    if bytes_eq word (codes "look") then look_of fields
-    else if bytes_eq word (codes "told") then told_of fields
-    else plain_step_of word fields
+-- and no field after it
+abbrev pub whole : Option (Line × List (List ℕ)) → Option Line
+whole read = do
+  line ← read
+  at_end line.0 line.1
+
+unfoldable pub act_of : List ℕ → ℕ → ℕ → List (List ℕ) → Option Line
+act_of name session moment fields =
+    if bytes_eq name (codes "look") then look_of session moment fields
+    else if bytes_eq name (codes "told") then told_of session moment fields
+    else whole (plain_act_at name session moment fields)
+
+-- the session and the moment, and what is behind them
+unfoldable pub at_of : List ℕ → List (List ℕ) → Option Line
+at_of name fields = do
+  session ← field_at (number (2 ^ 32)) fields
+  moment ← field_at (number (2 ^ 62 + 1)) session.1
+  act_of name session.0 moment.0 moment.1
+
+-- ---- all lines ----
 
 unfoldable pub line_of : List (List ℕ) → Option Line
 line_of [] = None
-line_of (word ∷ fields) =
-    if bytes_eq word (codes "session") then session_of fields
-    else if bytes_eq word (codes "low-session") then low_session_of fields
-    else if bytes_eq word (codes "coarse") then coarse_of fields
-    else step_of word fields
+line_of (name ∷ fields) =
+    if bytes_eq name (codes "session") then session_of fields
+    else if bytes_eq name (codes "low-session") then low_session_of fields
+    else if bytes_eq name (codes "coarse") then coarse_of fields
+    else if bytes_eq name (codes "carry") then carry_of fields
+    else at_of name fields
 
 abbrev pub is_skipped : List ℕ → Bool
 is_skipped [] = true

@@ -7,7 +7,7 @@ ghost use Rattle.script_reader.specs.Heads.{line_with, CanHoldLine};
 ghost use Rattle.script_reader.specs.Lawful.{IsLawfulLine};
 
 use crate::body::Body;
-use crate::head::{ArrivingHead, LineHead};
+use crate::head::{Act, ArrivingHead, LineHead};
 use crate::line::Line;
 pub use laws::generated_lines_apply;
 use pump_frame::{Name, SessionRow};
@@ -91,6 +91,17 @@ fn is_seventh(message: u32) -> bool
     message % 7 == 6
 }
 
+/// The line of this moment.
+fn at(moment: u64, act: Act) -> LineHead
+    ensures { result ≡ LineHead.At 1 moment act }
+{
+    LineHead::At {
+        session: 1,
+        moment,
+        act,
+    }
+}
+
 /// The row of a generated session.
 pub fn generated_row() -> SessionRow
     ensures { result ≡ generated_row }
@@ -115,22 +126,18 @@ impl Progress {
     ghost use Rattle.std.specs.Prelude.{ℕ, List};
     ghost use Rattle.script_reader.specs.Generating.{left_of, IsOnTime, Gives};
 
-    /// A look of the message that comes, to which nothing comes.
-    fn look(&self) -> LineHead
-        ensures { result ≡ LineHead.Look 1 self.now.moment self.now.word ArrivingHead.Nothing }
+    /// A look of the message that comes, to which this comes.
+    fn look(&self, arrival: ArrivingHead) -> LineHead
+        ensures { result ≡ LineHead.At 1 self.now.moment (Act.Look self.now.word arrival) }
     {
-        LineHead::Look {
-            session: 1,
-            moment: self.moment,
-            word: self.word,
-            arrival: ArrivingHead::Nothing,
-        }
+        let word = self.word;
+        at(self.moment, Act::Look { word, arrival })
     }
 
     /// The receiver takes a message, after a time that is drawn and passes.
     fn done(&mut self) -> LineHead
         requires { self.old.moment ≤ 2 ^ 62 }
-        ensures line { result ≡ LineHead.Done 1 self.old.moment (taking_time (drawn self.old.draw)) }
+        ensures line { result ≡ LineHead.At 1 self.old.moment (Act.Done (taking_time (drawn self.old.draw))) }
         ensures after { self.new ≡ record self.old {
           draw = drawn self.old.draw;
           moment = self.old.moment + taking_time
@@ -141,11 +148,7 @@ impl Progress {
         self.draw = next_draw(self.draw);
         let time = self.draw >> 20;
         self.moment += u64::from(time);
-        LineHead::Done {
-            session: 1,
-            moment,
-            time,
-        }
+        at(moment, Act::Done { time })
     }
 
     fn session(&mut self) -> LineHead
@@ -164,15 +167,11 @@ impl Progress {
     {
         self.turn = Turn::Offer;
         let row = generated_row();
-        LineHead::Look {
-            session: 1,
-            moment: 0,
-            word: 0,
-            arrival: ArrivingHead::Hello {
-                low: row.low,
-                high: row.high,
-            },
-        }
+        let arrival = ArrivingHead::Hello {
+            low: row.low,
+            high: row.high,
+        };
+        at(0, Act::Look { word: 0, arrival })
     }
 
     fn offer(&mut self, body: &mut Body) -> LineHead
@@ -185,14 +184,8 @@ impl Progress {
         self.draw = next_draw(self.word);
         fill(body, self.message, self.draw);
         self.turn = Turn::Pass;
-        LineHead::Look {
-            session: 1,
-            moment: self.moment,
-            word: self.word,
-            arrival: ArrivingHead::Data {
-                number: u64::from(self.message),
-            },
-        }
+        let number = u64::from(self.message);
+        self.look(ArrivingHead::Data { number })
     }
 
     fn pass(&mut self) -> LineHead
@@ -205,7 +198,7 @@ impl Progress {
         } else {
             Turn::Acknowledge
         };
-        self.look()
+        self.look(ArrivingHead::Nothing)
     }
 
     fn take(&mut self) -> LineHead
@@ -223,7 +216,7 @@ impl Progress {
         ensures { (bytes : List ℕ) → Gives self.old self.new bytes result }
     {
         self.turn = Turn::Acknowledge;
-        self.look()
+        self.look(ArrivingHead::Nothing)
     }
 
     fn acknowledge(&mut self) -> LineHead
@@ -232,7 +225,7 @@ impl Progress {
         ensures { (bytes : List ℕ) → Gives self.old self.new bytes result }
     {
         self.moment += 100_000;
-        let head = self.look();
+        let head = self.look(ArrivingHead::Nothing);
         if is_seventh(self.message) {
             self.turn = Turn::Takings(6);
         } else {

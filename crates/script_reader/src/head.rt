@@ -1,7 +1,8 @@
 // Lines without the bytes that come with them, which stand in a room of the caller's: a line with its
 // bytes has more than 1 KB, and to move it costs more than to read it.
 ghost use Rattle.std.specs.Prelude.{◌≡◌};
-ghost use Rattle.script_reader.specs.Heads.{arriving_with, line_with, bytes_in, bytes_of, CanHold, CanHoldLine};
+ghost use Rattle.script_reader.specs.Heads.{arriving_with, act_with, line_with, bytes_in, bytes_of, CanHold};
+ghost use Rattle.script_reader.specs.Heads.{CanHoldAct, CanHoldLine};
 
 use crate::line::{Arriving, Line, ToldFeedback};
 use arrayvec::ArrayVec;
@@ -18,6 +19,34 @@ pub enum ArrivingHead {
     Raw,
 }
 
+/// What a line does at its moment, without the bytes. Each is the line of `Line` that has its name.
+#[derive(Clone, Copy)]
+pub enum Act {
+    Look {
+        word: u32,
+        arrival: ArrivingHead,
+    },
+    Told {
+        word: u32,
+        fault: bool,
+        feedback: ToldFeedback,
+        arrival: ArrivingHead,
+    },
+    Step {
+        word: u32,
+    },
+    Gone,
+    High,
+    Return {
+        back: u64,
+    },
+    Done {
+        time: u32,
+    },
+    Restart,
+    ReceiverRestart,
+}
+
 /// A line of a script, as `Line`, without the bytes.
 #[derive(Clone, Copy)]
 pub enum LineHead {
@@ -31,54 +60,15 @@ pub enum LineHead {
     Coarse {
         session: u32,
     },
-    Look {
-        session: u32,
-        moment: u64,
-        word: u32,
-        arrival: ArrivingHead,
-    },
-    Told {
-        session: u32,
-        moment: u64,
-        word: u32,
-        fault: bool,
-        feedback: ToldFeedback,
-        arrival: ArrivingHead,
-    },
-    Step {
-        session: u32,
-        moment: u64,
-        word: u32,
-    },
-    Gone {
-        session: u32,
-        moment: u64,
-    },
-    High {
-        session: u32,
-        moment: u64,
-    },
     Carry {
         session: u32,
         back: u64,
     },
-    Return {
+    /// Any line that has a moment.
+    At {
         session: u32,
         moment: u64,
-        back: u64,
-    },
-    Done {
-        session: u32,
-        moment: u64,
-        time: u32,
-    },
-    Restart {
-        session: u32,
-        moment: u64,
-    },
-    ReceiverRestart {
-        session: u32,
-        moment: u64,
+        act: Act,
     },
 }
 
@@ -116,94 +106,72 @@ impl ArrivingHead {
     }
 }
 
+impl Act {
+    /// The line of this session and moment with these bytes.
+    fn with(&self, session: u32, moment: u64, bytes: &[u8]) -> Line
+        requires { CanHoldAct self.now bytes.now }
+        ensures { result ≡ act_with bytes.now session moment self.now }
+    {
+        match *self {
+            Act::Look { word, ref arrival } => Line::Look {
+                session,
+                moment,
+                word,
+                arrival: arrival.with(bytes),
+            },
+            Act::Told {
+                word,
+                fault,
+                feedback,
+                ref arrival,
+            } => Line::Told {
+                session,
+                moment,
+                word,
+                fault,
+                feedback,
+                arrival: arrival.with(bytes),
+            },
+            Act::Step { word } => Line::Step {
+                session,
+                moment,
+                word,
+            },
+            Act::Gone => Line::Gone { session, moment },
+            Act::High => Line::High { session, moment },
+            Act::Return { back } => Line::Return {
+                session,
+                moment,
+                back,
+            },
+            Act::Done { time } => Line::Done {
+                session,
+                moment,
+                time,
+            },
+            Act::Restart => Line::Restart { session, moment },
+            Act::ReceiverRestart => Line::ReceiverRestart { session, moment },
+        }
+    }
+}
+
 impl LineHead {
     /// The line with these bytes.
     pub fn with(&self, bytes: &[u8]) -> Line
         requires { CanHoldLine self.now bytes.now }
         ensures { result ≡ line_with bytes.now self.now }
     {
-        match self {
+        match *self {
             LineHead::Skip => Line::Skip,
-            LineHead::Session(row) => Line::Session(*row),
-            LineHead::LowSession { row, next, held } => Line::LowSession {
-                row: *row,
-                next: *next,
-                held: *held,
-            },
-            LineHead::Coarse { session } => Line::Coarse { session: *session },
-            LineHead::Look {
+            LineHead::Session(row) => Line::Session(row),
+            LineHead::LowSession { row, next, held } => Line::LowSession { row, next, held },
+            LineHead::Coarse { session } => Line::Coarse { session },
+            LineHead::Carry { session, back } => Line::Carry { session, back },
+            LineHead::At {
                 session,
                 moment,
-                word,
-                arrival,
-            } => Line::Look {
-                session: *session,
-                moment: *moment,
-                word: *word,
-                arrival: arrival.with(bytes),
-            },
-            LineHead::Told {
-                session,
-                moment,
-                word,
-                fault,
-                feedback,
-                arrival,
-            } => Line::Told {
-                session: *session,
-                moment: *moment,
-                word: *word,
-                fault: *fault,
-                feedback: *feedback,
-                arrival: arrival.with(bytes),
-            },
-            LineHead::Step {
-                session,
-                moment,
-                word,
-            } => Line::Step {
-                session: *session,
-                moment: *moment,
-                word: *word,
-            },
-            LineHead::Gone { session, moment } => Line::Gone {
-                session: *session,
-                moment: *moment,
-            },
-            LineHead::High { session, moment } => Line::High {
-                session: *session,
-                moment: *moment,
-            },
-            LineHead::Carry { session, back } => Line::Carry {
-                session: *session,
-                back: *back,
-            },
-            LineHead::Return {
-                session,
-                moment,
-                back,
-            } => Line::Return {
-                session: *session,
-                moment: *moment,
-                back: *back,
-            },
-            LineHead::Done {
-                session,
-                moment,
-                time,
-            } => Line::Done {
-                session: *session,
-                moment: *moment,
-                time: *time,
-            },
-            LineHead::Restart { session, moment } => Line::Restart {
-                session: *session,
-                moment: *moment,
-            },
-            LineHead::ReceiverRestart { session, moment } => Line::ReceiverRestart {
-                session: *session,
-                moment: *moment,
-            },
+                ref act,
+            } => act.with(session, moment, bytes),
         }
     }
 }
@@ -244,94 +212,73 @@ impl Arriving {
     }
 }
 
+/// The head of a line that has a moment.
+fn at(session: u32, moment: u64, act: Act) -> LineHead
+    ensures { result ≡ LineHead.At session moment act }
+{
+    LineHead::At {
+        session,
+        moment,
+        act,
+    }
+}
+
 impl Line {
     /// The line without the bytes that come with it.
     pub fn head(&self) -> LineHead
         ensures value { line_with (bytes_of self.now) result ≡ self.now }
         ensures room { CanHoldLine result (bytes_of self.now) }
     {
-        match self {
+        match *self {
             Line::Skip => LineHead::Skip,
-            Line::Session(row) => LineHead::Session(*row),
-            Line::LowSession { row, next, held } => LineHead::LowSession {
-                row: *row,
-                next: *next,
-                held: *held,
-            },
-            Line::Coarse { session } => LineHead::Coarse { session: *session },
+            Line::Session(row) => LineHead::Session(row),
+            Line::LowSession { row, next, held } => LineHead::LowSession { row, next, held },
+            Line::Coarse { session } => LineHead::Coarse { session },
+            Line::Carry { session, back } => LineHead::Carry { session, back },
             Line::Look {
                 session,
                 moment,
                 word,
-                arrival,
-            } => LineHead::Look {
-                session: *session,
-                moment: *moment,
-                word: *word,
-                arrival: arrival.head(),
-            },
+                ref arrival,
+            } => {
+                let arrival = arrival.head();
+                at(session, moment, Act::Look { word, arrival })
+            }
             Line::Told {
                 session,
                 moment,
                 word,
                 fault,
                 feedback,
-                arrival,
-            } => LineHead::Told {
-                session: *session,
-                moment: *moment,
-                word: *word,
-                fault: *fault,
-                feedback: *feedback,
-                arrival: arrival.head(),
-            },
+                ref arrival,
+            } => {
+                let told = Act::Told {
+                    word,
+                    fault,
+                    feedback,
+                    arrival: arrival.head(),
+                };
+                at(session, moment, told)
+            }
             Line::Step {
                 session,
                 moment,
                 word,
-            } => LineHead::Step {
-                session: *session,
-                moment: *moment,
-                word: *word,
-            },
-            Line::Gone { session, moment } => LineHead::Gone {
-                session: *session,
-                moment: *moment,
-            },
-            Line::High { session, moment } => LineHead::High {
-                session: *session,
-                moment: *moment,
-            },
-            Line::Carry { session, back } => LineHead::Carry {
-                session: *session,
-                back: *back,
-            },
+            } => at(session, moment, Act::Step { word }),
+            Line::Gone { session, moment } => at(session, moment, Act::Gone),
+            Line::High { session, moment } => at(session, moment, Act::High),
             Line::Return {
                 session,
                 moment,
                 back,
-            } => LineHead::Return {
-                session: *session,
-                moment: *moment,
-                back: *back,
-            },
+            } => at(session, moment, Act::Return { back }),
             Line::Done {
                 session,
                 moment,
                 time,
-            } => LineHead::Done {
-                session: *session,
-                moment: *moment,
-                time: *time,
-            },
-            Line::Restart { session, moment } => LineHead::Restart {
-                session: *session,
-                moment: *moment,
-            },
-            Line::ReceiverRestart { session, moment } => LineHead::ReceiverRestart {
-                session: *session,
-                moment: *moment,
-            },
+            } => at(session, moment, Act::Done { time }),
+            Line::Restart { session, moment } => at(session, moment, Act::Restart),
+            Line::ReceiverRestart { session, moment } => at(session, moment, Act::ReceiverRestart),
         }
     }
 

@@ -4,11 +4,11 @@ ghost use Rattle.arrayvec.specs.ArrayVec.{array_vec_len};
 ghost use Rattle.pump_frame.specs.Names.{IsName};
 ghost use Rattle.script_reader.specs.Grammar.{IsWord, IsLine, row_fields, outcome_field};
 ghost use Rattle.script_reader.specs.Lawful.{IsLawfulLine};
-ghost use Rattle.script_reader.specs.Heads.{arriving_with, line_with, CanHold, CanHoldLine};
+ghost use Rattle.script_reader.specs.Heads.{arriving_with, act_with, line_with, CanHold, CanHoldAct, CanHoldLine};
 ghost use Rattle.script_reader.specs.Spelling.{word_field, arriving_fields, feedback_field, line_spelling, line_text};
 ghost use Rattle.script_reader.specs.Typed.{behind, IsBehind, IsTypedRow, IsTypedArriving, IsTypedFeedback, IsPutLine};
 
-use crate::head::{ArrivingHead, LineHead};
+use crate::head::{Act, ArrivingHead, LineHead};
 use crate::line::{Line, ToldFeedback};
 use crate::printing::{put, put_field, put_held, put_hex, put_marked, put_prefix};
 use arrayvec::ArrayVec;
@@ -192,6 +192,44 @@ fn put_low_session<const N: usize>(
     put_held(into, held);
 }
 
+/// A line that has a moment, without its line end.
+fn put_act<const N: usize>(
+    into: &mut ArrayVec<u8, N>,
+    session: u32,
+    moment: u64,
+    act: &Act,
+    body: &[u8],
+)
+    requires room { array_vec_len into.old + 2400 ≤ N }
+    requires body { CanHoldAct act.now body.now }
+    ensures { IsPutLine into.old.items into.new.items (act_with body.now session moment act.now) }
+{
+    match act {
+        Act::Look { word, arrival } => {
+            put_step(into, b"look", session, moment, *word);
+            put_arriving(into, arrival, body);
+        }
+        Act::Told {
+            word,
+            fault,
+            feedback,
+            arrival,
+        } => {
+            put_step(into, b"told", session, moment, *word);
+            put_outcome(into, *fault);
+            put_feedback(into, *feedback);
+            put_arriving(into, arrival, body);
+        }
+        Act::Step { word } => put_step(into, b"step", session, moment, *word),
+        Act::Gone => put_prefix(into, b"gone", session, moment),
+        Act::High => put_prefix(into, b"high", session, moment),
+        Act::Return { back } => put_triple(into, b"return", session, moment, *back),
+        Act::Done { time } => put_triple(into, b"done", session, moment, u64::from(*time)),
+        Act::Restart => put_prefix(into, b"restart", session, moment),
+        Act::ReceiverRestart => put_prefix(into, b"receiver-restart", session, moment),
+    }
+}
+
 /// The line without its line end.
 fn put_line<const N: usize>(into: &mut ArrayVec<u8, N>, head: &LineHead, body: &[u8])
     requires room { array_vec_len into.old + 2400 ≤ N }
@@ -203,50 +241,12 @@ fn put_line<const N: usize>(into: &mut ArrayVec<u8, N>, head: &LineHead, body: &
         LineHead::Session(row) => put_row(into, b"session", row),
         LineHead::LowSession { row, next, held } => put_low_session(into, row, *next, *held),
         LineHead::Coarse { session } => put_coarse(into, *session),
-        LineHead::Look {
-            session,
-            moment,
-            word,
-            arrival,
-        } => {
-            put_step(into, b"look", *session, *moment, *word);
-            put_arriving(into, arrival, body);
-        }
-        LineHead::Told {
-            session,
-            moment,
-            word,
-            fault,
-            feedback,
-            arrival,
-        } => {
-            put_step(into, b"told", *session, *moment, *word);
-            put_outcome(into, *fault);
-            put_feedback(into, *feedback);
-            put_arriving(into, arrival, body);
-        }
-        LineHead::Step {
-            session,
-            moment,
-            word,
-        } => put_step(into, b"step", *session, *moment, *word),
-        LineHead::Gone { session, moment } => put_prefix(into, b"gone", *session, *moment),
-        LineHead::High { session, moment } => put_prefix(into, b"high", *session, *moment),
         LineHead::Carry { session, back } => put_prefix(into, b"carry", *session, *back),
-        LineHead::Return {
+        LineHead::At {
             session,
             moment,
-            back,
-        } => put_triple(into, b"return", *session, *moment, *back),
-        LineHead::Done {
-            session,
-            moment,
-            time,
-        } => put_triple(into, b"done", *session, *moment, u64::from(*time)),
-        LineHead::Restart { session, moment } => put_prefix(into, b"restart", *session, *moment),
-        LineHead::ReceiverRestart { session, moment } => {
-            put_prefix(into, b"receiver-restart", *session, *moment)
-        }
+            act,
+        } => put_act(into, *session, *moment, act, body),
     }
 }
 

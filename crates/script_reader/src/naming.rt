@@ -15,17 +15,9 @@ pub fn session_of(line: &LineHead) -> Option<u32>
         LineHead::Skip => None,
         LineHead::Session(row) => Some(row.id),
         LineHead::LowSession { row, .. } => Some(row.id),
-        LineHead::Coarse { session } => Some(*session),
-        LineHead::Look { session, .. } => Some(*session),
-        LineHead::Told { session, .. } => Some(*session),
-        LineHead::Step { session, .. } => Some(*session),
-        LineHead::Gone { session, .. } => Some(*session),
-        LineHead::High { session, .. } => Some(*session),
-        LineHead::Carry { session, .. } => Some(*session),
-        LineHead::Return { session, .. } => Some(*session),
-        LineHead::Done { session, .. } => Some(*session),
-        LineHead::Restart { session, .. } => Some(*session),
-        LineHead::ReceiverRestart { session, .. } => Some(*session),
+        LineHead::Coarse { session }
+        | LineHead::Carry { session, .. }
+        | LineHead::At { session, .. } => Some(*session),
     }
 }
 
@@ -34,20 +26,8 @@ pub fn moment_of(line: &LineHead) -> Option<u64>
     ensures { (bytes : List ℕ) → moment_in (line_with bytes line.now) ≡ result }
 {
     match line {
-        LineHead::Skip => None,
-        LineHead::Session(_) => None,
-        LineHead::LowSession { .. } => None,
-        LineHead::Coarse { .. } => None,
-        LineHead::Carry { .. } => None,
-        LineHead::Look { moment, .. } => Some(*moment),
-        LineHead::Told { moment, .. } => Some(*moment),
-        LineHead::Step { moment, .. } => Some(*moment),
-        LineHead::Gone { moment, .. } => Some(*moment),
-        LineHead::High { moment, .. } => Some(*moment),
-        LineHead::Return { moment, .. } => Some(*moment),
-        LineHead::Done { moment, .. } => Some(*moment),
-        LineHead::Restart { moment, .. } => Some(*moment),
-        LineHead::ReceiverRestart { moment, .. } => Some(*moment),
+        LineHead::At { moment, .. } => Some(*moment),
+        _ => None,
     }
 }
 
@@ -55,21 +35,12 @@ pub fn moment_of(line: &LineHead) -> Option<u64>
 pub fn begins_session(line: &LineHead) -> bool
     ensures { (bytes : List ℕ) → begins (line_with bytes line.now) ≡ result }
 {
-    match line {
-        LineHead::Session(_) => true,
-        LineHead::LowSession { .. } => true,
-        _ => false,
-    }
+    matches!(line, LineHead::Session(_) | LineHead::LowSession { .. })
 }
 
 /// Whether a line stands before all others: it begins a session, or makes one coarse.
 pub fn stands_first(line: &LineHead) -> bool
     ensures { (bytes : List ℕ) → is_first (line_with bytes line.now) ≡ result }
 {
-    match line {
-        LineHead::Session(_) => true,
-        LineHead::LowSession { .. } => true,
-        LineHead::Coarse { .. } => true,
-        _ => false,
-    }
+    begins_session(line) || matches!(line, LineHead::Coarse { .. })
 }

@@ -1,17 +1,15 @@
 // Reading a line of a script from its bytes.
-ghost use Rattle.std.specs.Prelude.{◌≡◌, ℕ, ◌+◌, ◌^◌, List, IfSome, Some, option_map};
-ghost use Rattle.script_reader.specs.Heads.{arriving_with, line_with, CanHold, CanHoldLine};
+ghost use Rattle.std.specs.Prelude.{◌≡◌, ℕ, List, IfSome, Some, option_map};
+ghost use Rattle.script_reader.specs.Heads.{arriving_with, act_with, line_with, CanHold, CanHoldAct, CanHoldLine};
 ghost use Rattle.script_reader.specs.Grammar.{IsLine};
 ghost use Rattle.script_reader.specs.Lawful.{IsLawfulLine};
-ghost use Rattle.script_reader.specs.Parsing.{Reads, field_at, number, row_behind, row_at, session_of, low_session_of};
-ghost use Rattle.script_reader.specs.Parsing.{coarse_of, hello_of, data_of, raw_of, arriving_of, look_of, told_behind};
-ghost use Rattle.script_reader.specs.Parsing.{told_of, stepped_of, session_and_moment, gone_of, high_of, carry_of};
-ghost use Rattle.script_reader.specs.Parsing.{return_of, done_of, restart_of, receiver_restart_of, numbered_step_of};
-ghost use Rattle.script_reader.specs.Parsing.{plain_step_of, step_of, line_of, line_at};
+ghost use Rattle.script_reader.specs.Parsing.{Reads, row_behind, row_at, session_of, low_session_of, coarse_of};
+ghost use Rattle.script_reader.specs.Parsing.{carry_of, hello_of, data_of, raw_of, arriving_of, look_of, told_of};
+ghost use Rattle.script_reader.specs.Parsing.{numbered_act_at, plain_act_at, act_of, at_of, line_of, line_at};
 
 use crate::body::Body;
 use crate::fields::{Fields, is_word};
-use crate::head::{ArrivingHead, LineHead};
+use crate::head::{Act, ArrivingHead, LineHead};
 use crate::line::Line;
 use pump_frame::SessionRow;
 
@@ -77,14 +75,35 @@ fn read_fields(fields: &mut Fields, body: &mut Body) -> Option<LineHead>
     if is_word(word, b"coarse") {
         return read_coarse(fields);
     }
-    read_step(word, fields, body)
+    if is_word(word, b"carry") {
+        return read_carry(fields);
+    }
+    read_at(word, fields, body)
 }
 
-/// A line of a session that has begun, behind its first word.
-#[tactic(auto, unfolding(crate::specs::Parsing::step_of))]
-fn read_step(word: &[u8], fields: &mut Fields, body: &mut Body) -> Option<LineHead>
-    ensures value { option_map (line_with body.new) result ≡ step_of word.now fields.old }
+/// A line that has a moment, behind its first word.
+#[tactic(auto, unfolding(crate::specs::Parsing::at_of))]
+fn read_at(word: &[u8], fields: &mut Fields, body: &mut Body) -> Option<LineHead>
+    ensures value { option_map (line_with body.new) result ≡ at_of word.now fields.old }
     ensures room { IfSome result (λ it. CanHoldLine it body.new) }
+{
+    let session = fields.small()?;
+    // At most 2^62 microseconds.
+    let moment = fields.number((1 << 62) + 1)?;
+    let act = read_act(word, fields, body)?;
+    Some(LineHead::At {
+        session,
+        moment,
+        act,
+    })
+}
+
+/// What is done at a moment, and all fields behind the moment.
+#[tactic(auto, unfolding(crate::specs::Parsing::act_of))]
+fn read_act(word: &[u8], fields: &mut Fields, body: &mut Body) -> Option<Act>
+    ensures value { (session moment : ℕ) → option_map (act_with body.new session moment) result
+        ≡ act_of word.now session moment fields.old }
+    ensures room { IfSome result (λ it. CanHoldAct it body.new) }
 {
     if is_word(word, b"look") {
         return read_look(fields, body);
@@ -92,47 +111,53 @@ fn read_step(word: &[u8], fields: &mut Fields, body: &mut Body) -> Option<LineHe
     if is_word(word, b"told") {
         return read_told(fields, body);
     }
-    read_plain_step(word, fields)
+    let act = read_plain_act(word, fields)?;
+    if !fields.is_done() {
+        return None;
+    }
+    Some(act)
 }
 
-/// As `read_step`, of a line that comes without bytes.
-#[tactic(auto, unfolding(crate::specs::Parsing::plain_step_of))]
-fn read_plain_step(word: &[u8], fields: &mut Fields) -> Option<LineHead>
-    ensures value { (bytes : List ℕ) → option_map (line_with bytes) result ≡ plain_step_of word.now fields.old }
-    ensures room { (bytes : List ℕ) → IfSome result (λ it. CanHoldLine it bytes) }
+/// What is done at a moment where no bytes come.
+#[tactic(auto, unfolding(crate::specs::Parsing::plain_act_at))]
+fn read_plain_act(word: &[u8], fields: &mut Fields) -> Option<Act>
+    ensures value { (bytes : List ℕ) (session moment : ℕ) → Reads (option_map (act_with bytes session moment) result)
+        fields.new (plain_act_at word.now session moment fields.old) }
+    ensures room { (bytes : List ℕ) → IfSome result (λ it. CanHoldAct it bytes) }
 {
     if is_word(word, b"gone") {
-        return read_gone(fields);
+        return Some(Act::Gone);
     }
     if is_word(word, b"high") {
-        return read_high(fields);
+        return Some(Act::High);
     }
     if is_word(word, b"restart") {
-        return read_restart(fields);
+        return Some(Act::Restart);
     }
     if is_word(word, b"receiver-restart") {
-        return read_receiver_restart(fields);
+        return Some(Act::ReceiverRestart);
     }
-    read_numbered_step(word, fields)
+    read_numbered_act(word, fields)
 }
 
-/// As `read_plain_step`, of a line of a session and a number, most with a moment.
-#[tactic(auto, unfolding(crate::specs::Parsing::numbered_step_of))]
-fn read_numbered_step(word: &[u8], fields: &mut Fields) -> Option<LineHead>
-    ensures value { (bytes : List ℕ) → option_map (line_with bytes) result ≡ numbered_step_of word.now fields.old }
-    ensures room { (bytes : List ℕ) → IfSome result (λ it. CanHoldLine it bytes) }
+/// As `read_plain_act`, where a number tells more.
+#[tactic(auto, unfolding(crate::specs::Parsing::numbered_act_at))]
+fn read_numbered_act(word: &[u8], fields: &mut Fields) -> Option<Act>
+    ensures value { (bytes : List ℕ) (session moment : ℕ) → Reads (option_map (act_with bytes session moment) result)
+        fields.new (numbered_act_at word.now session moment fields.old) }
+    ensures room { (bytes : List ℕ) → IfSome result (λ it. CanHoldAct it bytes) }
 {
-    if is_word(word, b"carry") {
-        return read_carry(fields);
-    }
     if is_word(word, b"return") {
-        return read_return(fields);
+        let back = fields.count()?;
+        return Some(Act::Return { back });
     }
     if is_word(word, b"done") {
-        return read_done(fields);
+        let time = fields.number(1_000_000_001)?;
+        return Some(Act::Done { time: time as u32 });
     }
     if is_word(word, b"step") {
-        return read_stepped(fields);
+        let word = fields.word()?;
+        return Some(Act::Step { word });
     }
     None
 }
@@ -222,6 +247,19 @@ fn read_coarse(fields: &mut Fields) -> Option<LineHead>
     Some(LineHead::Coarse { session })
 }
 
+#[tactic(auto, unfolding(crate::specs::Parsing::carry_of))]
+fn read_carry(fields: &mut Fields) -> Option<LineHead>
+    ensures value { (bytes : List ℕ) → option_map (line_with bytes) result ≡ carry_of fields.old }
+    ensures room { (bytes : List ℕ) → IfSome result (λ it. CanHoldLine it bytes) }
+{
+    let session = fields.small()?;
+    let back = fields.count()?;
+    if !fields.is_done() {
+        return None;
+    }
+    Some(LineHead::Carry { session, back })
+}
+
 #[tactic(auto, unfolding(crate::specs::Parsing::hello_of))]
 fn read_hello(fields: &mut Fields) -> Option<ArrivingHead>
     ensures value { (bytes : List ℕ) → option_map (arriving_with bytes) result ≡ hello_of fields.old }
@@ -280,178 +318,31 @@ fn read_arriving(fields: &mut Fields, body: &mut Body) -> Option<ArrivingHead>
     None
 }
 
-#[tactic(auto, unfolding(crate::specs::Parsing::look_of, crate::specs::Parsing::arriving_of))]
-fn read_look(fields: &mut Fields, body: &mut Body) -> Option<LineHead>
-    ensures value { option_map (line_with body.new) result ≡ look_of fields.old }
-    ensures room { IfSome result (λ it. CanHoldLine it body.new) }
+#[tactic(auto, unfolding(crate::specs::Parsing::look_of))]
+fn read_look(fields: &mut Fields, body: &mut Body) -> Option<Act>
+    ensures value { (session moment : ℕ) → option_map (act_with body.new session moment) result
+        ≡ look_of session moment fields.old }
+    ensures room { IfSome result (λ it. CanHoldAct it body.new) }
 {
-    let session = fields.small()?;
-    let moment = read_moment(fields)?;
     let word = fields.word()?;
     let arrival = read_arriving(fields, body)?;
-    Some(LineHead::Look {
-        session,
-        moment,
-        word,
-        arrival,
-    })
+    Some(Act::Look { word, arrival })
 }
 
 #[tactic(auto, unfolding(crate::specs::Parsing::told_of))]
-fn read_told(fields: &mut Fields, body: &mut Body) -> Option<LineHead>
-    ensures value { option_map (line_with body.new) result ≡ told_of fields.old }
-    ensures room { IfSome result (λ it. CanHoldLine it body.new) }
+fn read_told(fields: &mut Fields, body: &mut Body) -> Option<Act>
+    ensures value { (session moment : ℕ) → option_map (act_with body.new session moment) result
+        ≡ told_of session moment fields.old }
+    ensures room { IfSome result (λ it. CanHoldAct it body.new) }
 {
-    let session = fields.small()?;
-    let moment = read_moment(fields)?;
     let word = fields.word()?;
-    read_told_behind(fields, body, session, moment, word)
-}
-
-/// The look at this moment, and what is told in it.
-#[tactic(auto, unfolding(crate::specs::Parsing::told_behind))]
-fn read_told_behind(
-    fields: &mut Fields,
-    body: &mut Body,
-    session: u32,
-    moment: u64,
-    word: u32,
-) -> Option<LineHead>
-    ensures value { option_map (line_with body.new) result ≡ told_behind session moment word fields.old }
-    ensures room { IfSome result (λ it. CanHoldLine it body.new) }
-{
     let fault = fields.choice(b"fine", b"fault")?;
     let feedback = fields.feedback()?;
     let arrival = read_arriving(fields, body)?;
-    Some(LineHead::Told {
-        session,
-        moment,
+    Some(Act::Told {
         word,
         fault,
         feedback,
         arrival,
     })
-}
-
-#[tactic(auto, unfolding(crate::specs::Parsing::stepped_of))]
-fn read_stepped(fields: &mut Fields) -> Option<LineHead>
-    ensures value { (bytes : List ℕ) → option_map (line_with bytes) result ≡ stepped_of fields.old }
-    ensures room { (bytes : List ℕ) → IfSome result (λ it. CanHoldLine it bytes) }
-{
-    let session = fields.small()?;
-    let moment = read_moment(fields)?;
-    let word = fields.word()?;
-    if !fields.is_done() {
-        return None;
-    }
-    Some(LineHead::Step {
-        session,
-        moment,
-        word,
-    })
-}
-
-/// A moment, at most 2^62 microseconds.
-fn read_moment(fields: &mut Fields) -> Option<u64>
-    ensures { Reads result fields.new (field_at (number (2 ^ 62 + 1)) fields.old) }
-{
-    fields.number((1 << 62) + 1)
-}
-
-/// A session and a moment, and no field after them.
-#[tactic(auto, unfolding(crate::specs::Parsing::session_and_moment))]
-fn read_session_and_moment(fields: &mut Fields) -> Option<(u32, u64)>
-    ensures { result ≡ session_and_moment fields.old }
-{
-    let session = fields.small()?;
-    let moment = read_moment(fields)?;
-    if !fields.is_done() {
-        return None;
-    }
-    Some((session, moment))
-}
-
-#[tactic(auto, unfolding(crate::specs::Parsing::gone_of))]
-fn read_gone(fields: &mut Fields) -> Option<LineHead>
-    ensures value { (bytes : List ℕ) → option_map (line_with bytes) result ≡ gone_of fields.old }
-    ensures room { (bytes : List ℕ) → IfSome result (λ it. CanHoldLine it bytes) }
-{
-    let (session, moment) = read_session_and_moment(fields)?;
-    Some(LineHead::Gone { session, moment })
-}
-
-#[tactic(auto, unfolding(crate::specs::Parsing::high_of))]
-fn read_high(fields: &mut Fields) -> Option<LineHead>
-    ensures value { (bytes : List ℕ) → option_map (line_with bytes) result ≡ high_of fields.old }
-    ensures room { (bytes : List ℕ) → IfSome result (λ it. CanHoldLine it bytes) }
-{
-    let (session, moment) = read_session_and_moment(fields)?;
-    Some(LineHead::High { session, moment })
-}
-
-#[tactic(auto, unfolding(crate::specs::Parsing::carry_of))]
-fn read_carry(fields: &mut Fields) -> Option<LineHead>
-    ensures value { (bytes : List ℕ) → option_map (line_with bytes) result ≡ carry_of fields.old }
-    ensures room { (bytes : List ℕ) → IfSome result (λ it. CanHoldLine it bytes) }
-{
-    let session = fields.small()?;
-    let back = fields.count()?;
-    if !fields.is_done() {
-        return None;
-    }
-    Some(LineHead::Carry { session, back })
-}
-
-#[tactic(auto, unfolding(crate::specs::Parsing::return_of))]
-fn read_return(fields: &mut Fields) -> Option<LineHead>
-    ensures value { (bytes : List ℕ) → option_map (line_with bytes) result ≡ return_of fields.old }
-    ensures room { (bytes : List ℕ) → IfSome result (λ it. CanHoldLine it bytes) }
-{
-    let session = fields.small()?;
-    let moment = read_moment(fields)?;
-    let back = fields.count()?;
-    if !fields.is_done() {
-        return None;
-    }
-    Some(LineHead::Return {
-        session,
-        moment,
-        back,
-    })
-}
-
-#[tactic(auto, unfolding(crate::specs::Parsing::done_of))]
-fn read_done(fields: &mut Fields) -> Option<LineHead>
-    ensures value { (bytes : List ℕ) → option_map (line_with bytes) result ≡ done_of fields.old }
-    ensures room { (bytes : List ℕ) → IfSome result (λ it. CanHoldLine it bytes) }
-{
-    let session = fields.small()?;
-    let moment = read_moment(fields)?;
-    let time = fields.number(1_000_000_001)?;
-    if !fields.is_done() {
-        return None;
-    }
-    Some(LineHead::Done {
-        session,
-        moment,
-        time: time as u32,
-    })
-}
-
-#[tactic(auto, unfolding(crate::specs::Parsing::restart_of))]
-fn read_restart(fields: &mut Fields) -> Option<LineHead>
-    ensures value { (bytes : List ℕ) → option_map (line_with bytes) result ≡ restart_of fields.old }
-    ensures room { (bytes : List ℕ) → IfSome result (λ it. CanHoldLine it bytes) }
-{
-    let (session, moment) = read_session_and_moment(fields)?;
-    Some(LineHead::Restart { session, moment })
-}
-
-#[tactic(auto, unfolding(crate::specs::Parsing::receiver_restart_of))]
-fn read_receiver_restart(fields: &mut Fields) -> Option<LineHead>
-    ensures value { (bytes : List ℕ) → option_map (line_with bytes) result ≡ receiver_restart_of fields.old }
-    ensures room { (bytes : List ℕ) → IfSome result (λ it. CanHoldLine it bytes) }
-{
-    let (session, moment) = read_session_and_moment(fields)?;
-    Some(LineHead::ReceiverRestart { session, moment })
 }

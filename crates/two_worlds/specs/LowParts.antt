@@ -22,7 +22,9 @@ use Rattle.script_reader.specs.declared.line.ToldFeedback.{ToldFeedback}
 use Rattle.script_reader.specs.declared.line.ToldFeedback.TheVariants.{Quiet, Full, Pair}
 use Rattle.script_reader.specs.declared.line.Arriving.{Arriving}
 use Rattle.script_reader.specs.Steps.{LineComing, Arrives}
-use Rattle.script_reader.specs.Alone.{PastAlone, told_of_read, joined_alone, IsOfferedTold}
+use Rattle.script_reader.specs.declared.line.Line.{Line}
+use Rattle.script_reader.specs.Alone.{PastAlone, told_of_read, joined_alone, IsOfferedTold, is_apt_alone}
+use Rattle.script_reader.specs.Alone.{IsRefusedAlone, StepAlone}
 use Rattle.two_worlds.specs.Connections.{waits_of, is_broken_of, reading_of}
 use Rattle.two_worlds.specs.declared.applied.Stop.{Stop}
 use Rattle.two_worlds.specs.declared.applied.Stop.TheVariants as stops
@@ -108,6 +110,12 @@ abbrev pub Ends : LowParts → LowParts → (PastAlone → Type 0) → (PastAlon
     → List Event → Option Stop → Type 0
 Ends c d Bars Does printed stop =
     (p : PastAlone) → PartsStand c p → EndsBy (Bars p) (Does p) c d printed stop
+
+-- so a line ends
+abbrev pub EndsLine : LowParts → LowParts → Line → List Event → Option Stop → Type 0
+EndsLine c d line printed stop = Ends c d (λ p. IsRefusedAlone c.row p line)
+    (λ p is_fault q printed. (is_apt_alone c.row p line ≡ true) × StepAlone c.row p line is_fault q printed) printed
+    stop
 
 -- it is always done
 abbrev pub NeverBars : PastAlone → Type 0

@@ -22,7 +22,7 @@ use crate::sender::either;
 use arrayvec::ArrayVec;
 use disk_model::{Disk, Role};
 use pump_frame::Payload;
-use script_reader::{ArrivingHead, EventHead, LineHead, moment_of};
+use script_reader::{Act, ArrivingHead, EventHead, LineHead, moment_of};
 use stable_buffer::Device;
 use two_worlds::Stop;
 
@@ -230,11 +230,10 @@ impl<D: Disk> Chain<D> {
                 });
             }
         };
-        let look = LineHead::Look {
+        let look = LineHead::At {
             session: self.second.row().id,
             moment,
-            word,
-            arrival,
+            act: Act::Look { word, arrival },
         };
         let stop = self.second.apply_head(&look, payload.as_slice(), events);
         let applied = is_applied(stop);

@@ -1,13 +1,11 @@
 -- A line that can be applied, from the part of it that carried it out.
-use Rattle.std.proofs.Common.{◌≡◌, ℕ, Bool, true, false, List, [], Result, Err, refl, inl, sym, ap, ◌∙◌, subst}
-use Rattle.std.specs.Prelude.{◌==◌, nat_le}
-use Rattle.std.proofs.lemmas.Bool.{and_parts, eqb-true}
+use Rattle.std.proofs.Common.{◌≡◌, ℕ, ◌≤◌, Bool, true, false, List, [], Result, Err, refl, inl, sym, ap, ◌∙◌, subst}
+use Rattle.std.specs.Prelude.{◌&&◌, ◌==◌, nat_le}
+use Rattle.std.proofs.lemmas.Bool.{and_parts, eqb-true, eq-eqb, le-leb}
 use Rattle.disk_model.specs.Disk.{Meaning}
 use Rattle.script_reader.specs.declared.event.Event.{Event}
 use Rattle.script_reader.specs.declared.event.EventHead.{EventHead}
-use Rattle.script_reader.specs.declared.line.Arriving.{Arriving}
 use Rattle.script_reader.specs.declared.line.Line.{Line as ScriptLine}
-use Rattle.script_reader.specs.declared.line.Line.TheVariants as lines
 use Rattle.two_worlds.specs.declared.applied.Stop.{Stop}
 use Rattle.two_worlds.specs.declared.applied.Stop.TheVariants.{Line}
 use Rattle.two_worlds.specs.declared.pump.parts.Parts.{Parts}
@@ -66,18 +64,14 @@ module _ {D : Type 0} (m : Meaning D) (c : Parts D) (line : ScriptLine) (heads :
         row = refl;
       })
 
-module _ {D : Type 0} (c : Parts D) (line : ScriptLine) (timely : is_timely_by c line ≡ true) (session : ℕ) where
-  pub own_look : (moment word : ℕ) (a : Arriving) → line ≡ lines.Look session moment word a → line ≡ lines.Look c.row.id moment word a
-  own_look moment word a is =
-      let both = and_parts (session == c.row.id) (nat_le c.moment moment) (subst (λ (l : ScriptLine). is_timely_by c l ≡ true) is timely) in
-      is ∙ ap (λ (s : ℕ). lines.Look s moment word a) (eqb-true session c.row.id both.0)
+-- a line of the parts' own session whose moment does not fall
+module _ {D : Type 0} (c : Parts D) (moment : ℕ) (order : c.moment ≤ moment) where
+  pub on_time : (c.row.id == c.row.id && nat_le c.moment moment) ≡ true
+  on_time = rw (eq-eqb c.row.id c.row.id refl, le-leb c.moment moment order) refl
 
-  pub own_gone : (moment : ℕ) → line ≡ lines.Gone session moment → line ≡ lines.Gone c.row.id moment
-  own_gone moment is =
-      let both = and_parts (session == c.row.id) (nat_le c.moment moment) (subst (λ (l : ScriptLine). is_timely_by c l ≡ true) is timely) in
-      is ∙ ap (λ (s : ℕ). lines.Gone s moment) (eqb-true session c.row.id both.0)
+  pub on_time_and : (more : Bool) → (c.row.id == c.row.id && (nat_le c.moment moment && more)) ≡ more
+  on_time_and more = rw (eq-eqb c.row.id c.row.id refl, le-leb c.moment moment order) refl
 
-  pub own_done : (moment time : ℕ) → line ≡ lines.Done session moment time → line ≡ lines.Done c.row.id moment time
-  own_done moment time is =
-      let both = and_parts (session == c.row.id) _ (subst (λ (l : ScriptLine). is_timely_by c l ≡ true) is timely) in
-      is ∙ ap (λ (s : ℕ). lines.Done s moment time) (eqb-true session c.row.id both.0)
+-- the test names the session
+pub own_session : {D : Type 0} (c : Parts D) (session : ℕ) (more : Bool) → true ≡ (session == c.row.id && more) → session ≡ c.row.id
+own_session c session more test = eqb-true session c.row.id (and_parts (session == c.row.id) more (sym test)).0

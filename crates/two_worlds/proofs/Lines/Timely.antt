@@ -10,6 +10,9 @@ use Rattle.high_process.specs.States as high
 use Rattle.pump_core.specs.Passage.{Low, High}
 use Rattle.passage.specs.Plain.{held_in, StandsFor as EndsStand}
 use Rattle.script_reader.specs.declared.event.Event.{Event}
+use Rattle.script_reader.specs.declared.head.Act.{Act}
+use Rattle.script_reader.specs.declared.head.Act.TheVariants as acts
+use Rattle.script_reader.specs.Heads.{act_with}
 use Rattle.script_reader.specs.declared.line.Line.{Line as ScriptLine}
 use Rattle.script_reader.specs.declared.line.Line.TheVariants as lines
 use Rattle.script_reader.specs.Past.{Past}
@@ -59,6 +62,27 @@ module _ {D : Type 0} (m : Meaning D) (c : Parts D) (p : Past) where
   timely_is (lines.ReceiverRestart session moment) s = ap (λ (n : ℕ). session == c.row.id && nat_le n moment) s.moment
   timely_is (lines.Done session moment time) s =
       ap (λ (t : ℕ × Bool). session == c.row.id && (nat_le t.0 moment && (not t.1 || nat_le (moment + time) (2 ^ 62)))) (λ i. (s.moment i, goes_is m c p s i))
+
+-- ---- lines that have a moment ----
+
+and_more : (a b more : Bool) → (a && b) ≡ false → (a && (b && more)) ≡ false
+and_more true true more e = absurd (cc)
+and_more true false more e = refl
+and_more false b more e = refl
+
+-- of another session, or with a moment that falls
+pub late_act : {D : Type 0} (c : Parts D) (bytes : List ℕ) (session moment : ℕ) (act : Act) → (session == c.row.id && nat_le c.moment moment) ≡ false
+    → is_timely_by c (act_with bytes session moment act) ≡ false
+late_act c bytes session moment (acts.Look w a) late = late
+late_act c bytes session moment (acts.Told w fault told a) late = refl
+late_act c bytes session moment (acts.Step w) late = refl
+late_act c bytes session moment acts.Gone late = late
+late_act c bytes session moment acts.High late = late
+late_act c bytes session moment (acts.Return back) late = and_more (session == c.row.id) (nat_le c.moment moment) (nat_lt back (length c.returned.items)) late
+late_act c bytes session moment (acts.Done time) late =
+    and_more (session == c.row.id) (nat_le c.moment moment) (not (goes_on_by c) || nat_le (moment + time) (2 ^ 62)) late
+late_act c bytes session moment acts.Restart late = late
+late_act c bytes session moment acts.ReceiverRestart late = late
 
 -- what was run after the test
 module _ {D : Type 0} (m : Meaning D) (c : Parts D) (line : ScriptLine) (out : List Event) where

@@ -1,7 +1,7 @@
 -- From the looks of a low side alone to its lines.
 use Rattle.std.proofs.Common.{◌≡◌, ℕ, ◌≤◌, ◌++◌, Bool, true, false, List, length, Option, Some, None, refl, sym, ap, ◌∙◌, subst, inr}
 use Rattle.std.specs.Prelude.{◌&&◌, ◌||◌, ◌==◌, nat_le}
-use Rattle.std.proofs.lemmas.Bool.{and_parts, eqb-true}
+use Rattle.std.proofs.lemmas.Bool.{and_parts, eqb-true, eq-eqb, le-leb}
 use Rattle.disk_model.specs.Plain.{Plain, plain_meaning}
 use Rattle.disk_model.specs.declared.name.Role.TheVariants as roles
 use Rattle.pump_frame.specs.Readings.{Reading}
@@ -15,6 +15,9 @@ use Rattle.stable_buffer.specs.declared.low.LowStore.{LowStore}
 use Rattle.low_process.specs.declared.process.LowProcess.{LowProcess}
 use Rattle.low_process.specs.Whole.{IsStoreOf}
 use Rattle.script_reader.specs.declared.event.Event.{Event}
+use Rattle.script_reader.specs.declared.head.Act.{Act}
+use Rattle.script_reader.specs.declared.head.Act.TheVariants as acts
+use Rattle.script_reader.specs.Heads.{act_with}
 use Rattle.script_reader.specs.declared.line.Arriving.{Arriving}
 use Rattle.script_reader.specs.declared.line.Line.{Line}
 use Rattle.script_reader.specs.declared.line.Line.TheVariants as lines
@@ -209,3 +212,38 @@ module _ (c : LowParts) (p : PastAlone) (was : PartsStand c p) where
         ends_after (IsRefusedAlone c.row p gone_line) (λ is_fault q printed. IsToldAt c.row (lost_alone p) m 0 Quiet Gone is_fault q printed)
         (λ is_fault q printed. (is_apt_alone c.row p gone_line ≡ true) × StepAlone c.row p gone_line is_fault q printed) c c d events stop
         (λ is_fault q printed look. (sym (timely_is session m) ∙ timely, look)) h
+
+-- ---- lines that have a moment ----
+
+and_more : (a b more : Bool) → (a && b) ≡ false → (a && (b && more)) ≡ false
+and_more true true more e = absurd (cc)
+and_more true false more e = refl
+and_more false b more e = refl
+
+module _ (c : LowParts) (p : PastAlone) (was : PartsStand c p) where
+  -- of another session, or with a moment that falls
+  pub late_alone : (bytes : List ℕ) (session moment : ℕ) (act : Act) → (session == c.row.id && nat_le c.moment moment) ≡ false
+      → is_apt_alone c.row p (act_with bytes session moment act) ≡ false
+  late_alone bytes session moment (acts.Told w fault told a) late =
+      and_more (session == c.row.id) (nat_le p.moment moment) (tells_level c.row told) (sym (timely_is c p was session moment) ∙ late)
+  late_alone bytes session moment acts.Gone late = sym (timely_is c p was session moment) ∙ late
+  late_alone bytes session moment (acts.Look w a) late = refl
+  late_alone bytes session moment (acts.Step w) late = refl
+  late_alone bytes session moment acts.High late = refl
+  late_alone bytes session moment (acts.Return back) late = refl
+  late_alone bytes session moment (acts.Done time) late = refl
+  late_alone bytes session moment acts.Restart late = refl
+  late_alone bytes session moment acts.ReceiverRestart late = refl
+
+-- of the parts' own session, with a moment that does not fall
+module _ (c : LowParts) (moment : ℕ) (order : c.moment ≤ moment) where
+  pub on_time : (c.row.id == c.row.id && nat_le c.moment moment) ≡ true
+  on_time = rw (eq-eqb c.row.id c.row.id refl, le-leb c.moment moment order) refl
+
+  pub on_time_and : (more : Bool) → (c.row.id == c.row.id && (nat_le c.moment moment && more)) ≡ more
+  on_time_and more = rw (eq-eqb c.row.id c.row.id refl, le-leb c.moment moment order) refl
+
+  -- and with an average that is no level
+  pub untold : (p : PastAlone) → PartsStand c p → (told : ToldFeedback) → tells_level c.row told ≡ false
+      → (c.row.id == c.row.id && (nat_le p.moment moment && tells_level c.row told)) ≡ false
+  untold p was told level = sym (apt_is c p was c.row.id moment told) ∙ on_time_and (tells_level c.row told) ∙ level

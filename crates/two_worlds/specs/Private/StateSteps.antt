@@ -9,7 +9,10 @@ use Rattle.script_reader.specs.Steps.{is_timely, LineStep, IsRefusedWhole, Overf
 use Rattle.script_reader.specs.Breaks.{Breaks}
 use Rattle.two_worlds.specs.declared.applied.Stop.{Stop}
 use Rattle.two_worlds.specs.declared.applied.Stop.TheVariants.{Line, Device, Full, Disk}
+use Rattle.script_reader.specs.declared.line.Line.TheVariants.{Restart, ReceiverRestart}
 use Rattle.two_worlds.specs.declared.pump.state.PumpState.{PumpState}
+use Rattle.two_worlds.specs.declared.pump.state.Reopening.{Reopening}
+use Rattle.two_worlds.specs.declared.pump.state.Reopening.TheVariants.{Relay, Receiver, Nothing}
 use Rattle.two_worlds.specs.Doing.{Fails, LeavesFit}
 use Rattle.two_worlds.specs.Standing.{bare_disk}
 use Rattle.two_worlds.specs.States.{disks_in, is_down_in, IsOpenWith, StandsIn, RefusesAheadIn}
@@ -57,3 +60,9 @@ pub record StateTried {D : Type 0} (m : Meaning D) (s t : PumpState D) (line : S
   pub serve : DisksGo m (disks_in s).row (disks_in s).low (disks_in s).high (disks_in s).recv (disks_in t).low
       (disks_in t).high (disks_in t).recv stop
   pub row : (disks_in t).row ≡ (disks_in s).row
+
+-- what the line opens again
+abbrev pub IsReopened : ScriptLine → Reopening → Type 0
+IsReopened line (Relay session m) = line ≡ Restart session m
+IsReopened line (Receiver session m) = line ≡ ReceiverRestart session m
+IsReopened line Nothing = opens_again line ≡ false

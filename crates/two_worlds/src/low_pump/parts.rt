@@ -20,7 +20,7 @@ use low_process::{Answer, Arrival, AskHead, LookHead, LowProcess};
 use moving_avg::{down, is_level};
 use pump_core::Seen;
 use pump_frame::{Item, OutOfMemory, Payload, SessionRow};
-use script_reader::{ArrivingHead, EventHead, LineHead, ToldFeedback};
+use script_reader::{Act, ArrivingHead, EventHead, LineHead, ToldFeedback};
 use stable_buffer::{LowStore, Register, disk_size, format};
 use std::alloc::Global;
 
@@ -125,13 +125,12 @@ impl LowParts {
     ghost use Rattle.script_reader.specs.declared.event.Event.TheVariants.{End};
     ghost use Rattle.script_reader.specs.declared.line.ToldFeedback.TheVariants.{Quiet};
     ghost use Rattle.script_reader.specs.Lawful.{IsLawfulArriving, IsLawfulLine};
-    ghost use Rattle.script_reader.specs.Heads.{arriving_with, line_with, CanHold, CanHoldLine};
+    ghost use Rattle.script_reader.specs.Heads.{arriving_with, act_with, line_with, CanHold, CanHoldAct, CanHoldLine};
     ghost use Rattle.script_reader.specs.Lows.{first_of};
     ghost use Rattle.script_reader.specs.Scripts.{IsEndAlone};
-    ghost use Rattle.script_reader.specs.Alone.{PastAlone, fresh_alone, lost_alone, is_apt_alone, IsRefusedAlone};
-    ghost use Rattle.script_reader.specs.Alone.{StepAlone, IsToldAt};
-    ghost use Rattle.two_worlds.specs.LowParts.{PartsStand, StandsForSome, HasAsked, AnsweredBy, Ends, NeverBars};
-    ghost use Rattle.two_worlds.specs.LowParts.{Crowds, IsJoinedTold};
+    ghost use Rattle.script_reader.specs.Alone.{PastAlone, fresh_alone, lost_alone, IsToldAt};
+    ghost use Rattle.two_worlds.specs.LowParts.{PartsStand, StandsForSome, HasAsked, AnsweredBy, Ends, EndsLine};
+    ghost use Rattle.two_worlds.specs.LowParts.{NeverBars, Crowds, IsJoinedTold};
     ghost use Rattle.two_worlds.specs.Printing.{lines_in};
 
     /// The parts before the first line, with `next` messages stored, of which the last is held or not.
@@ -184,14 +183,6 @@ impl LowParts {
         ensures { result ≡ (session == self.now.row.id && nat_le self.now.moment moment) }
     {
         session == self.row.id && self.moment <= moment
-    }
-
-    /// The same of a `told` line, and a coarse session is told no average but a level.
-    fn is_apt(&self, session: u32, moment: u64, told: ToldFeedback) -> bool
-        ensures { result ≡ (session == self.now.row.id && (nat_le self.now.moment moment && tells_level self.now.row
-            told)) }
-    {
-        self.is_timely(session, moment) && tells_level(&self.row, told)
     }
 
     /// The rest of a look, which is answered by what was told.
@@ -308,6 +299,37 @@ impl LowParts {
         self.look_gone(moment, out)
     }
 
+    /// What is done at a moment of this session, which does not fall.
+    fn act(
+        &mut self,
+        moment: u64,
+        act: &Act,
+        bytes: &[u8],
+        out: &mut ArrayVec<EventHead, 4>,
+    ) -> Option<Stop>
+        requires lawful { IsLawfulLine (act_with bytes.now self.old.row.id moment act.now) }
+        requires room { CanHoldAct act.now bytes.now }
+        requires stands { ∥ StandsForSome self.old ∥₁ }
+        requires order { self.old.moment ≤ moment }
+        requires out { out.old.items ≡ [] }
+        ensures ends { EndsLine self.old self.new (act_with bytes.now self.old.row.id moment act.now)
+            (lines_in out.new.items) result }
+        ensures row { self.new.row ≡ self.old.row }
+    {
+        match *act {
+            Act::Told {
+                word,
+                fault,
+                feedback,
+                ref arrival,
+            } if tells_level(&self.row, feedback) => {
+                self.told(moment, word, fault, feedback, arrival, bytes, out)
+            }
+            Act::Gone => self.gone(moment, out),
+            _ => Some(Stop::Line),
+        }
+    }
+
     /// A line of the script. What it prints is all that is in the list after it.
     pub fn apply(
         &mut self,
@@ -318,33 +340,16 @@ impl LowParts {
         requires lawful { IsLawfulLine (line_with bytes.now line.now) }
         requires room { CanHoldLine line.now bytes.now }
         requires stands { ∥ StandsForSome self.old ∥₁ }
-        ensures ends { Ends self.old self.new (λ p. IsRefusedAlone self.old.row p (line_with bytes.now line.now))
-            (λ p is_fault q printed. (is_apt_alone self.old.row p (line_with bytes.now line.now) ≡ true)
-            × StepAlone self.old.row p (line_with bytes.now line.now) is_fault q printed) (lines_in out.new.items)
-            result }
+        ensures ends { EndsLine self.old self.new (line_with bytes.now line.now) (lines_in out.new.items) result }
         ensures row { self.new.row ≡ self.old.row }
     {
         out.clear();
-        match line {
-            LineHead::Told {
+        match *line {
+            LineHead::At {
                 session,
                 moment,
-                word,
-                fault,
-                feedback,
-                arrival,
-            } => {
-                if !self.is_apt(*session, *moment, *feedback) {
-                    return Some(Stop::Line);
-                }
-                self.told(*moment, *word, *fault, *feedback, arrival, bytes, out)
-            }
-            LineHead::Gone { session, moment } => {
-                if !self.is_timely(*session, *moment) {
-                    return Some(Stop::Line);
-                }
-                self.gone(*moment, out)
-            }
+                ref act,
+            } if self.is_timely(session, moment) => self.act(moment, act, bytes, out),
             _ => Some(Stop::Line),
         }
     }

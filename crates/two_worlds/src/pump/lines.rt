@@ -1,11 +1,11 @@
 //! The lines of a script.
 
 ghost use Rattle.std.specs.Prelude.{◌≡◌, ℕ, ◌+◌, ◌^◌, ◌<◌, ◌≤◌, true, false, ◌&&◌, ◌||◌, not, ◌==◌, nat_lt, nat_le};
-ghost use Rattle.std.specs.Prelude.{length, Some};
+ghost use Rattle.std.specs.Prelude.{[], length, Some};
 ghost use Rattle.disk_model.specs.declared.name.Role.TheVariants as roles;
 ghost use Rattle.script_reader.specs.Lawful.{IsLawfulLine};
 ghost use Rattle.script_reader.specs.declared.line.Line.TheVariants as lines;
-ghost use Rattle.script_reader.specs.Heads.{line_with, CanHoldLine};
+ghost use Rattle.script_reader.specs.Heads.{act_with, line_with, CanHoldAct, CanHoldLine};
 ghost use Rattle.script_reader.specs.Steps.{IsCarriedBack};
 ghost use Rattle.script_reader.specs.Breaks.{BreaksOff};
 ghost use Rattle.two_worlds.specs.Printing.{lines_in};
@@ -21,7 +21,7 @@ use crate::applied::Stop;
 use crate::pump::parts::Parts;
 use arrayvec::ArrayVec;
 use disk_model::Disk;
-use script_reader::{EventHead, LineHead};
+use script_reader::{Act, EventHead, LineHead};
 
 /// The last moment of a script, 2^62.
 const LAST_MOMENT: u64 = 4_611_686_018_427_387_904;
@@ -49,22 +49,20 @@ impl<D: Disk> Parts<D> {
         session == self.row.id && back < self.sent.len() as u64
     }
 
-    /// As `is_timely`, and the number of the TAKEN so many before the last one is kept.
-    fn can_return(&self, session: u32, moment: u64, back: u64) -> bool
-        ensures { result ≡ (session == self.now.row.id && (nat_le self.now.moment moment
-            && nat_lt back (length self.now.returned.items))) }
+    /// The number of the TAKEN so many before the last one is kept.
+    fn can_return(&self, back: u64) -> bool
+        ensures { result ≡ nat_lt back (length self.now.returned.items) }
     {
-        self.is_timely(session, moment) && back < self.returned.len() as u64
+        back < self.returned.len() as u64
     }
 
-    /// As `is_timely`, and no TAKEN comes back, or it does so by the last moment of a script.
-    fn can_be_done(&self, session: u32, moment: u64, time: u32) -> bool
+    /// No TAKEN comes back, or it does so by the last moment of a script.
+    fn can_be_done(&self, moment: u64, time: u32) -> bool
         requires able { IsAble D.told self.now }
         requires moment { moment ≤ 2 ^ 62 }
-        ensures { result ≡ (session == self.now.row.id && (nat_le self.now.moment moment
-            && (not (goes_on_by self.now) || nat_le (moment + time) (2 ^ 62)))) }
+        ensures { result ≡ (not (goes_on_by self.now) || nat_le (moment + time) (2 ^ 62)) }
     {
-        self.is_timely(session, moment) && (!self.goes_on() || moment + time as u64 <= LAST_MOMENT)
+        !self.goes_on() || moment + time as u64 <= LAST_MOMENT
     }
 
     /// The message in the high hand, which was sent last, comes to the receiver, and its TAKEN comes
@@ -117,6 +115,36 @@ impl<D: Disk> Parts<D> {
         self.carry_back(moment + time as u64, out)
     }
 
+    /// What is done at a moment of this session, which does not fall. `Stop::Line` where it can't be, and
+    /// then nothing was done.
+    fn act(
+        &mut self,
+        moment: u64,
+        act: &Act,
+        bytes: &[u8],
+        out: &mut ArrayVec<EventHead, 4>,
+    ) -> Result<(), Stop>
+        requires able { IsAble D.told self.old }
+        requires order { self.old.moment ≤ moment }
+        requires lawful { IsLawfulLine (act_with bytes.now self.old.row.id moment act.now) }
+        requires room { CanHoldAct act.now bytes.now }
+        requires stays { opens_again (act_with bytes.now self.old.row.id moment act.now) ≡ false }
+        requires out { out.old.items ≡ [] }
+        ensures { Tried D.told self.old self.new (act_with bytes.now self.old.row.id moment act.now)
+            (lines_in out.new.items) result }
+    {
+        match *act {
+            Act::Look { word, ref arrival } => self.look_line(moment, word, arrival, bytes, out),
+            Act::Gone => self.gone_line(moment, out),
+            Act::High => self.look_high(moment, out),
+            Act::Return { back } if self.can_return(back) => self.take_back(moment, back, out),
+            Act::Done { time } if self.can_be_done(moment, time) => {
+                self.done_line(moment, time, out)
+            }
+            _ => Err(Stop::Line),
+        }
+    }
+
     /// A line of the script: what it prints is all that is in the list after it. `Stop::Line` where it
     /// can't be applied, and then nothing was done.
     pub fn apply(
@@ -132,37 +160,14 @@ impl<D: Disk> Parts<D> {
         ensures { Tried D.told self.old self.new (line_with bytes.now line.now) (lines_in out.new.items) result }
     {
         out.clear();
-        match line {
-            LineHead::Look {
+        match *line {
+            LineHead::At {
                 session,
                 moment,
-                word,
-                arrival,
-            } if self.is_timely(*session, *moment) => {
-                self.look_line(*moment, *word, arrival, bytes, out)
-            }
-            LineHead::Gone { session, moment } if self.is_timely(*session, *moment) => {
-                self.gone_line(*moment, out)
-            }
-            LineHead::High { session, moment } if self.is_timely(*session, *moment) => {
-                self.look_high(*moment, out)
-            }
-            LineHead::Carry { session, back } if self.can_carry(*session, *back) => {
-                self.carry(*back, out)
-            }
-            LineHead::Return {
-                session,
-                moment,
-                back,
-            } if self.can_return(*session, *moment, *back) => {
-                self.take_back(*moment, *back, out)
-            }
-            LineHead::Done {
-                session,
-                moment,
-                time,
-            } if self.can_be_done(*session, *moment, *time) => {
-                self.done_line(*moment, *time, out)
+                ref act,
+            } if self.is_timely(session, moment) => self.act(moment, act, bytes, out),
+            LineHead::Carry { session, back } if self.can_carry(session, back) => {
+                self.carry(back, out)
             }
             _ => Err(Stop::Line),
         }

@@ -4,8 +4,7 @@ ghost use Rattle.std.specs.Prelude.{◌≡◌, ◌<◌, ◌≤◌, ◌+◌, true
 ghost use Rattle.disk_model.specs.Disk.{Moves, Same};
 ghost use Rattle.disk_model.specs.declared.name.Role.TheVariants as roles;
 ghost use Rattle.high_process.specs.States as high;
-ghost use Rattle.high_receiver.specs.Receiving.{IsRecvReady, recv_count, recv_disk, recv_end, recv_is_open, recv_row};
-ghost use Rattle.high_receiver.specs.Receiving.{recv_size, record_at};
+ghost use Rattle.high_receiver.specs.Receiving.{IsRecvReady, KeepsLog, recv_count, recv_disk, recv_is_open, record_at};
 ghost use Rattle.low_process.specs.Looks as low;
 ghost use Rattle.script_reader.specs.Past.{Past};
 ghost use Rattle.stable_buffer.specs.Low.{IsLowReady, low_count, low_disk, low_row};
@@ -62,11 +61,7 @@ impl<D: Disk> Parts<D> {
             → next ≡ record_at p.world.received (n + 1)) }
         ensures rest { self.new ≡ record self.old { receiver = self.new.receiver } }
         ensures ready { OnOk result (IsRecvReady D.told self.new.receiver) }
-        ensures count { recv_count self.new.receiver ≡ recv_count self.old.receiver }
-        ensures end { recv_end self.new.receiver ≡ recv_end self.old.receiver }
-        ensures row { recv_row self.new.receiver ≡ recv_row self.old.receiver }
-        ensures size { recv_size self.new.receiver ≡ recv_size self.old.receiver }
-        ensures same { Moves D.told Same (recv_disk self.old.receiver) (recv_disk self.new.receiver) }
+        ensures keeps { KeepsLog D.told self.old.receiver self.new.receiver }
         ensures serves { OnOk result (Serves D.told 0 (recv_disk self.old.receiver) (recv_disk self.new.receiver)
             false) }
         ensures fails { OnErr result (Serves D.told 0 (recv_disk self.old.receiver) (recv_disk self.new.receiver)

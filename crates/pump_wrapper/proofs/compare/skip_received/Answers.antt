@@ -52,7 +52,7 @@ returns-in-Err g c =
       message = kept.message;
       ready = λ other. absurd (other tt);
       closed = λ device. e.closed;
-      keeps = kept_on m _ _ _ kept.keeps e.count e.end e.row e.size e.moves e.answers.counts;
+      keeps = kept_on m _ _ _ kept.keeps e.keeps e.answers.counts;
       cause = (e.device, omega (arith, kept.keeps.counts, e.answers.rose refl));
       later = kept.later;
     }
@@ -77,7 +77,7 @@ returns-in-Done g c =
       message = next.same ∙ kept.message;
       ready = λ other. e.ready;
       closed = λ device. absurd device;
-      keeps = kept_on m _ _ _ kept.keeps e.count e.end e.row e.size e.moves e.answers.counts;
+      keeps = kept_on m _ _ _ kept.keeps e.keeps e.answers.counts;
       cause = tt;
       later = omega (arith, kept.later, next.later);
     }
@@ -99,7 +99,7 @@ returns-in-Failed g c =
       message = next.same ∙ kept.message;
       ready = λ other. e.ready;
       closed = λ device. absurd device;
-      keeps = kept_on m _ _ _ kept.keeps e.count e.end e.row e.size e.moves e.answers.counts;
+      keeps = kept_on m _ _ _ kept.keeps e.keeps e.answers.counts;
       cause = omega (arith, kept.later, next.failed refl);
       later = omega (arith, kept.later, next.later);
     }
@@ -121,7 +121,7 @@ returns-in-TooLong g c =
       message = next.same ∙ kept.message;
       ready = λ other. e.ready;
       closed = λ device. absurd device;
-      keeps = kept_on m _ _ _ kept.keeps e.count e.end e.row e.size e.moves e.answers.counts;
+      keeps = kept_on m _ _ _ kept.keeps e.keeps e.answers.counts;
       cause = tt;
       later = omega (arith, kept.later, next.later);
     }
@@ -150,7 +150,7 @@ returns-then-ne g c =
       message = next.same ∙ kept.message;
       ready = λ other. e.ready;
       closed = λ device. absurd device;
-      keeps = kept_on m _ _ _ kept.keeps e.count e.end e.row e.size e.moves e.answers.counts;
+      keeps = kept_on m _ _ _ kept.keeps e.keeps e.answers.counts;
       cause = tt;
       later = omega (arith, kept.later, next.later);
     }
@@ -166,7 +166,7 @@ loop-number-preserved g c =
     let same : c.at.new.into ≡ c.next.new.into = sym c.as_slice.ensures.value ∙ (bytes_eq-Decides c.as_slice.result.now c.as_slice-in-loop-number.result.now).0 (not_false _ (sym c.ne.ensures ∙ c.if-ne.false)) ∙ c.as_slice-in-loop-number.ensures.value in
     record {
       ready = e.ready;
-      keeps = kept_on m _ _ _ kept.keeps e.count e.end e.row e.size e.moves e.answers.counts;
+      keeps = kept_on m _ _ _ kept.keeps e.keeps e.answers.counts;
       place = e.next;
       later = omega (arith, kept.later, next.later);
       may = next.may refl;

@@ -24,8 +24,8 @@ returns-in-Err g c =
           (n, lt, begins c.args.message (take n messages) c.loop-number.gathering (kept.taken told messages stands), kept.wrote told messages stands);
       ready = λ other. absurd (other tt);
       closed = λ device. e.closed;
-      keeps = kept_on m _ _ _ kept.keeps e.count e.end e.row e.size e.moves e.counts;
-      cause = (e.device, omega (arith, kept.keeps.counts, e.rose));
+      keeps = kept_on m _ _ _ kept.keeps e.keeps e.answers.counts;
+      cause = (e.device, omega (arith, kept.keeps.counts, e.answers.rose));
       later = kept.later;
     }
 
@@ -45,7 +45,7 @@ returns-in_default g c =
           (lt, begins c.args.message (take n messages) c.loop-number.gathering has, subst (λ (ms : List (List ℕ)). BeginsFile c.args.message ms → ⊥) more never, kept.wrote told messages stands);
       ready = λ other. e.ready;
       closed = λ device. absurd device;
-      keeps = kept_on m _ _ _ kept.keeps e.count e.end e.row e.size e.moves e.counts;
+      keeps = kept_on m _ _ _ kept.keeps e.keeps e.answers.counts;
       cause = tt;
       later = kept.later;
     }
@@ -76,7 +76,7 @@ returns-in-Err-put g c =
           );
       ready = λ other. e.ready;
       closed = λ device. absurd device;
-      keeps = kept_on m _ _ _ kept.keeps e.count e.end e.row e.size e.moves e.counts;
+      keeps = kept_on m _ _ _ kept.keeps e.keeps e.answers.counts;
       cause = omega (arith, kept.later, c.in-Err-put.ensures.cause.failed);
       later = omega (arith, kept.later, c.in-Err-put.ensures.cause.later);
     }
@@ -120,7 +120,7 @@ loop-number-preserved g c =
     let bytes = λ (told : m.tells) (messages : List (List ℕ)) (stands : RecvStands c.args.receiver.now.row messages (m.reading c.args.receiver.now.register.disk)). next_bytes messages n asl piece (more told messages stands) step.1 in
     record {
       ready = e.ready;
-      keeps = kept_on m _ _ _ kept.keeps e.count e.end e.row e.size e.moves e.counts;
+      keeps = kept_on m _ _ _ kept.keeps e.keeps e.answers.counts;
       reading = e.reading;
       given = e.given ∙ ap (λ k. k + 1) kept.given;
       later = omega (arith, kept.later, c.put.ensures.cause.later);

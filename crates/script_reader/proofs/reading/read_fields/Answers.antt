@@ -13,3 +13,7 @@ returns-then-is_word-2-clause-value c = rw (c.read_low_session.ensures.value c.a
 pub returns-then-is_word-3-clause-value : goal.returns-then-is_word-3-clause-value
 unfolding line_of
 returns-then-is_word-3-clause-value c = rw (c.read_coarse.ensures.value c.args.body.now) (search rules)
+
+pub returns-then-is_word-4-clause-value : goal.returns-then-is_word-4-clause-value
+unfolding line_of
+returns-then-is_word-4-clause-value c = rw (c.read_carry.ensures.value c.args.body.now) (search rules)

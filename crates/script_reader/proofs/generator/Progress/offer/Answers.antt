@@ -10,8 +10,8 @@ returns c =
     let time : Reaches Offer old.count old.message (mark_of old) =
     subst (λ t. Reaches t old.count old.message (mark_of old)) c.requires.turn c.requires.time.1 in
     record {
-      next = rw (c.fill.ensures.value, c.from.ensures, c.next_draw-self-2.ensures, c.next_draw-self.ensures, c.requires.turn) (offer_first old.count old.message (mark_of old) c.requires.more);
-      lawful = rw c.from.ensures (omega (arith, time), omega (arith, time));
-      room = omega (arith, c.fill.ensures.few);
+      next = rw (c.look.ensures, c.fill.ensures.value, c.from-number.ensures, c.next_draw-self-2.ensures, c.next_draw-self.ensures, c.requires.turn) (offer_first old.count old.message (mark_of old) c.requires.more);
+      lawful = rw (c.look.ensures, c.from-number.ensures) (omega (arith, time), omega (arith, time));
+      room = rw c.look.ensures (omega (arith, c.fill.ensures.few));
       on_time = (c.requires.time.0, (c.requires.more, time.1));
     }

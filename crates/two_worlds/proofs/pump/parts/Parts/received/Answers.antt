@@ -13,4 +13,4 @@ pub returns-in-Ok-clause-message : goal.returns-in-Ok-clause-message
 returns-in-Ok-clause-message g c = told_message g.D.Disk.told c.args.self.now c.args.n c.at.new.into c.in-Ok.ensures.message
 
 pub returns-in-Ok-clause-next : goal.returns-in-Ok-clause-next
-returns-in-Ok-clause-next g c = told_next g.D.Disk.told c.args.self.now c.at.new.self (c.args.n + 1) c.in-Ok.next c.at.ensures.row c.at.ensures.moves c.in-Ok.ensures.next
+returns-in-Ok-clause-next g c = told_next g.D.Disk.told c.args.self.now c.at.new.self (c.args.n + 1) c.in-Ok.next c.at.ensures.keeps.row c.at.ensures.keeps.moves c.in-Ok.ensures.next

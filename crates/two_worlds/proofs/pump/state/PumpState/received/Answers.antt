@@ -17,14 +17,14 @@ returns-in-Ok-clause-next g c = λ told.
 pub returns-in-Ok-clause-reads : goal.returns-in-Ok-clause-reads
 returns-in-Ok-clause-reads g c =
     let e = c.in-Ok.ensures in
-    (recv_reads g.D.Disk.told c.args.self.now c.in-Open.parts c.received-read.new.self c.in-Open.is e.rest e.same c.requires.able e.ready e.count e.end e.row e.size e.serves).0
+    (recv_reads g.D.Disk.told c.args.self.now c.in-Open.parts c.received-read.new.self c.in-Open.is e.rest e.keeps.moves c.requires.able e.ready e.keeps.count e.keeps.end e.keeps.row e.keeps.size e.serves).0
 
 pub returns-in-Ok-clause-able : goal.returns-in-Ok-clause-able
 returns-in-Ok-clause-able g c =
     let e = c.in-Ok.ensures in
-    (recv_reads g.D.Disk.told c.args.self.now c.in-Open.parts c.received-read.new.self c.in-Open.is e.rest e.same c.requires.able e.ready e.count e.end e.row e.size e.serves).1
+    (recv_reads g.D.Disk.told c.args.self.now c.in-Open.parts c.received-read.new.self c.in-Open.is e.rest e.keeps.moves c.requires.able e.ready e.keeps.count e.keeps.end e.keeps.row e.keeps.size e.serves).1
 
 pub returns-in-Err-clause-fails : goal.returns-in-Err-clause-fails
 returns-in-Err-clause-fails g c =
     let e = c.in-Err.ensures in
-    recv_fails g.D.Disk.told c.args.self.now c.in-Open.parts c.received-read.new.self c.in-Open.is e.rest e.same e.closed e.fails
+    recv_fails g.D.Disk.told c.args.self.now c.in-Open.parts c.received-read.new.self c.in-Open.is e.rest e.keeps.moves e.closed e.fails

@@ -1,5 +1,6 @@
 pub mod Broken
 pub mod Ending
+pub mod EndsUnbegun
 pub mod Failed
 pub mod Joining
 pub mod Mapped

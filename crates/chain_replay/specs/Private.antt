@@ -1,5 +1,6 @@
 -- Words of private clauses.
 use Rattle.std.specs.Prelude.{◌≡◌, ◌⊎◌, ℕ, ◌+◌, List, [], ◌∷◌, ◌++◌, length, Option, None, Some}
+use Rattle.std.specs.Io.KnownBytes.{Appends}
 use Rattle.disk_model.specs.Disk.{Meaning}
 use Rattle.disk_model.specs.Shelf.{OnShelf, IsOut}
 use Rattle.disk_model.specs.declared.name.Role.{Role}
@@ -20,14 +21,14 @@ use Rattle.script_reader.specs.declared.line.Line.{Line}
 use Rattle.script_reader.specs.declared.line.Line.TheVariants.{Skip, Session}
 use Rattle.script_reader.specs.Lines.{LineReading, AreLines, to_come}
 use Rattle.script_reader.specs.Openings.{Openings}
-use Rattle.script_reader.specs.Transcript.{text}
+use Rattle.script_reader.specs.Transcript.{text, fault_line}
 use Rattle.script_replay.specs.Lending.{ReadAt, IsOutAt, RisesAt}
 use Rattle.script_replay.specs.Replays.{IsNear, IsTimed}
 use Rattle.script_reader.specs.Readouts.{Sound}
 use Rattle.script_reader.specs.Scripts.{Running, Whole}
 use Rattle.script_reader.specs.Sessions.{events_of}
 use Rattle.script_replay.specs.Outputs.{Gathers}
-use Rattle.script_replay.specs.Runners.{refusal_of, IsLineFault}
+use Rattle.script_replay.specs.Runners.{Closes, refusal_of, IsLineFault}
 use Rattle.script_replay.specs.Shelves.{Places, disk_name, OfDisks, HasFound}
 use Rattle.world_laws.specs.Disks.{StandForLeft}
 use Rattle.chain_replay.specs.Faults.{IsHalted, ChainStops, NamesWhatFailed, session_or, broken_in}
@@ -162,6 +163,12 @@ IsOfLine (Some fault) = IsLineFault fault
 abbrev pub IsDevice : Fault → Type 0
 IsDevice (faults.Device session role) = Unit {0}
 IsDevice fault = ⊥
+
+-- nothing was written where memory was wanting for the chain; else the fault closes the output
+abbrev pub ClosesUnbegun : (old new : Option (List ℕ)) (before now : ℕ) → Option Fault → Ended → Type 0
+ClosesUnbegun old new before now None result = (result ≡ ended.Memory) × Appends old new []
+ClosesUnbegun old new before now (Some fault) result =
+    Closes old new before now (fault_line fault) (ended.Stopped fault) result
 
 abbrev pub IsDeviceEnd : Ended → Type 0
 IsDeviceEnd (ended.Stopped fault) = IsDevice fault

@@ -15,7 +15,7 @@ use arrayvec::ArrayVec;
 use disk_model::{Disk, Role};
 use pump_chain::Chain;
 use pump_link::Sink;
-use script_reader::{Body, EventHead, Fault, LineHead, session_of};
+use script_reader::{Act, Body, EventHead, Fault, LineHead, session_of};
 use script_replay::{Output, refusal_of};
 use two_worlds::Stop;
 
@@ -35,7 +35,13 @@ fn session_at(first: u32, line: &LineHead, role: Role) -> u32
     ensures { (bytes : List ℕ) → result ≡ broken_in first (line_with bytes line.now) role }
 {
     match (line, role) {
-        (LineHead::Step { .. }, Role::Recv) => first,
+        (
+            LineHead::At {
+                act: Act::Step { .. },
+                ..
+            },
+            Role::Recv,
+        ) => first,
         _ => session_or(first, line),
     }
 }

@@ -7,10 +7,10 @@
 
 mod applying;
 mod disks;
-mod opening;
 mod printing;
 mod replaying;
 mod rows;
 mod running;
+mod unbegun;
 
 pub use replaying::replay_chain;

@@ -13,11 +13,11 @@ ghost use Rattle.pump_frame.specs.Counts.{Rose};
 ghost use Rattle.script_replay.specs.Failing.{FailsAt};
 ghost use Rattle.script_replay.specs.Shelves.{AllAreBack};
 
-use crate::disks::put_six_back;
-use crate::opening::open;
+use crate::disks::{put_six_back, take_six};
 use crate::printing::stop;
 use crate::rows::read_rows;
 use crate::running::run;
+use crate::unbegun::{chain_fault, end_unbegun};
 use disk_model::Shelf;
 use pump_chain::Chain;
 use pump_link::{Sink, Source};
@@ -84,13 +84,20 @@ pub fn replay_chain<S: Shelf, I: Source, O: Sink>(
         Ok(rows) => rows,
         Err(fault) => return stop(fault, out),
     };
-    match open(alloc, shelf, &one, &two) {
+    let disks = match take_six(shelf, one.id, two.id) {
+        Ok(disks) => disks,
+        Err(fault) => return end_unbegun(fault, out),
+    };
+    // The chain is matched where it is made: it has some KB.
+    match Chain::open(alloc, &one, &two, disks) {
         Ok(mut chain) => {
             let ended = run(&mut chain, one.id, &mut lines, &mut body, script, out);
             leave(chain, one.id, two.id, shelf);
             ended
         }
-        Err(None) => Ended::Memory,
-        Err(Some(fault)) => stop(fault, out),
+        Err(refused) => {
+            put_six_back(shelf, one.id, two.id, refused.disks);
+            end_unbegun(chain_fault(two.id, &refused.why), out)
+        }
     }
 }

@@ -2,6 +2,7 @@ pub mod Alike
 pub mod Counting
 pub mod Hearing
 pub mod HighEnding
+pub mod HighGoing
 pub mod HighSending
 pub mod HighServing
 pub mod HighStaying
@@ -16,6 +17,7 @@ pub mod LowServing
 pub mod LowStaying
 pub mod LowTurning
 pub mod LowVisiting
+pub mod LowWorkers
 pub mod Machine
 pub mod Reaching
 pub mod ReadingBack

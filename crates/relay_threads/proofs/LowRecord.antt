@@ -12,8 +12,8 @@ use Rattle.pump_core.specs.History.{Gone as CameGone}
 use Rattle.pump_core.specs.Exchanges.{Part, IsCut}
 use Rattle.pump_core.specs.Step.{fits_in, is_quiet, is_full, after}
 use Rattle.pump_core.specs.Standing.{State, end_of}
-use Rattle.relay_threads.specs.declared.low_round.LowWhy.{LowWhy}
-use Rattle.relay_threads.specs.declared.low_round.LowWhy.TheVariants.{Gone, Bad, LinkFailed, Device, RecordFailed, Looks, Stopped}
+use Rattle.relay_threads.specs.declared.low_served.LowWhy.{LowWhy}
+use Rattle.relay_threads.specs.declared.low_served.LowWhy.TheVariants.{Gone, Bad, LinkFailed, Device, RecordFailed, Looks, Stopped}
 use Rattle.relay_threads.specs.Hearings.{Ending, AtFrame, AtBad, AtNotYet, AtEnded, AtFailed, AtMost, Hearing}
 use Rattle.relay_threads.specs.Records.{Made, looks_made, life_made, AreMade, was_full, record_of, passes_on}
 use Rattle.relay_threads.specs.RecordLines.{look_text, looks_text}

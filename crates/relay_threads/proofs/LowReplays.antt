@@ -11,8 +11,8 @@ use Rattle.pump_core.specs.Phases.{Phase}
 use Rattle.pump_core.specs.Phases.{Idle, Passing, Waiting as Waits, Down}
 use Rattle.pump_core.specs.Standing.{State, end_of}
 use Rattle.pump_core.specs.Step.{after, after_in, after_idle, takes_in, takes_idle}
-use Rattle.relay_threads.specs.declared.low_round.LowWhy.{LowWhy}
-use Rattle.relay_threads.specs.declared.low_round.LowWhy.TheVariants.{Gone, Bad, LinkFailed, Device, RecordFailed, Looks, Stopped}
+use Rattle.relay_threads.specs.declared.low_served.LowWhy.{LowWhy}
+use Rattle.relay_threads.specs.declared.low_served.LowWhy.TheVariants.{Gone, Bad, LinkFailed, Device, RecordFailed, Looks, Stopped}
 use Rattle.relay_threads.specs.Hearings.{Ending, AtFrame, AtBad, AtNotYet, AtEnded, AtFailed, AtMost, Hearing, IsHearing, EndsSo}
 use Rattle.relay_threads.specs.Records.{Made, looks_made, AreMade, is_recorded, recorded, made_of, record_of}
 use Rattle.relay_threads.specs.RecordLines.{taken_by, HasLawfulFrame}

@@ -15,8 +15,8 @@ use Rattle.pump_link.proofs.Known.{Appends-none, Appends-then}
 use Rattle.pump_core.specs.History.{Look}
 use Rattle.pump_core.specs.Replies.{sent}
 use Rattle.low_process.specs.declared.process.LowProcess.{LowProcess}
-use Rattle.relay_threads.specs.declared.low_round.LowWhy.{LowWhy}
-use Rattle.relay_threads.specs.declared.low_round.LowWhy.TheVariants.{Gone, Bad, LinkFailed, Device, RecordFailed, Looks, Stopped}
+use Rattle.relay_threads.specs.declared.low_served.LowWhy.{LowWhy}
+use Rattle.relay_threads.specs.declared.low_served.LowWhy.TheVariants.{Gone, Bad, LinkFailed, Device, RecordFailed, Looks, Stopped}
 use Rattle.relay_threads.specs.Hearings.{Ending, AtFrame, AtBad, AtNotYet, AtEnded, AtFailed, AtMost, Hearing, Leaves, held_in, held_by}
 use Rattle.relay_threads.specs.Reaching.{Reaches}
 use Rattle.relay_threads.specs.Records.{Made, replies_made, is_recorded, was_full, record_of}

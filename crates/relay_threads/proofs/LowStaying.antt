@@ -1,5 +1,5 @@
 -- Stays of the low worker, one after another.
-use Rattle.std.proofs.Common.{◌≡◌, ℕ, ◌+◌, ◌≤◌, ◌<◌, Bool, true, false, List, [], ◌∷◌, Option, Some, None, refl, sym, ap, ◌∙◌, subst, arith}
+use Rattle.std.proofs.Common.{◌≡◌, ℕ, ◌+◌, ◌≤◌, ◌<◌, Bool, true, false, List, [], ◌∷◌, length, Option, Some, None, refl, sym, ap, ◌∙◌, subst, arith}
 use Rattle.std.specs.List.{AllByRecursion}
 use Rattle.std.specs.Io.KnownBytes.{Appends}
 use Rattle.pump_frame.specs.declared.row.SessionRow.{SessionRow}
@@ -11,8 +11,8 @@ use Rattle.pump_link.proofs.Grown.{Draws-nil, Grows-nil}
 use Rattle.pump_core.specs.History.{Opening}
 use Rattle.low_process.specs.declared.process.LowProcess.{LowProcess}
 use Rattle.low_process.specs.Looks.{row_of}
-use Rattle.relay_threads.specs.declared.low_round.LowWhy.{LowWhy}
-use Rattle.relay_threads.specs.declared.low_round.LowWhy.TheVariants.{Gone, Bad, LinkFailed, Device, RecordFailed, Looks, Stopped}
+use Rattle.relay_threads.specs.declared.low_served.LowWhy.{LowWhy}
+use Rattle.relay_threads.specs.declared.low_served.LowWhy.TheVariants.{Gone, Bad, LinkFailed, Device, RecordFailed, Looks, Stopped}
 use Rattle.relay_threads.specs.declared.rounds_end.RoundsEnd.{RoundsEnd}
 use Rattle.relay_threads.specs.declared.rounds_end.RoundsEnd.TheVariants.{Rounds as RoundsMade, Device as DeviceBroke, RecordFailed as RecordBroke}
 use Rattle.relay_threads.specs.declared.rounds_end.Stayed.{Stayed}
@@ -20,7 +20,7 @@ use Rattle.relay_threads.specs.Reaching.{Reaches}
 use Rattle.relay_threads.specs.Workers.{IsNobody}
 use Rattle.relay_threads.specs.LowRounds.{newest_cause}
 use Rattle.relay_threads.specs.LowServes.{Lives, Leads}
-use Rattle.relay_threads.specs.LowStays.{Stay, Alone, With, Visit, IsStay, IsVisit, visited, stay_after, stayed, AreStays, StaysSo, IsOver, steps, answers, moments_in, words_in, text_in, text_at, count, count_at, stay_end, end_at, EndsStay, EndsVisit, EndsStays, IsRecord, TellsVisit}
+use Rattle.relay_threads.specs.LowStays.{Stay, Alone, With, Visit, IsStay, IsVisit, visited, stay_after, stayed, AreStays, StaysSo, IsOver, steps, answers, moments_in, words_in, text_in, text_at, count, count_at, stay_end, end_at, EndsStay, EndsStays, IsLeft, IsRecord, TellsVisit}
 use Rattle.relay_threads.specs.Records.{AreMade}
 use Rattle.relay_threads.proofs.LowRecord.{one_record}
 use Rattle.relay_threads.proofs.LowLives.{leads_none, leads_then}
@@ -44,13 +44,14 @@ pub with_so : {L : Type 0} (p q : LowProcess) (m : ℕ) (v : Visit L) → Leads 
     → Leads p q (λ row o before. IsStay row o before (With m v)) (λ before. stay_after before (With m v))
 with_so p q m v s = record { row = s.row; rule = s.rule; lives = s.lives }
 
--- a visit within a stay
-pub ends_stay : {L : Type 0} (m : ℕ) (v : Visit L) (most rest : ℕ) (s s' : Stayed) → EndsVisit v.rounds v.is_kept rest s → s'.end ≡ s.end → s'.looks ≡ 1 + s.looks → most ≡ 1 + rest → EndsStay (With m v) most s'
-ends_stay m v most rest s s' e end looks is = record {
-  end = end ∙ e.end;
-  looks = looks ∙ ap (λ n. 1 + n) e.looks;
-  bound = omega (arith, e.bound, is);
-  over = λ lt none. (e.left (omega (arith, lt, is)), none);
+-- a link that was served, in at most one round less
+pub ends_stay : {L : Type 0} (m : ℕ) (v : Visit L) (most rest : ℕ) (s : Stayed) → s.end ≡ end_at (newest_cause v.rounds) v.is_kept → s.looks ≡ 1 + length v.rounds → most ≡ 1 + rest → length v.rounds ≤ rest → (length v.rounds < rest → IsLeft v.rounds)
+    → EndsStay (With m v) most s
+ends_stay m v most rest s end looks is bound left = record {
+  end = end;
+  looks = looks;
+  bound = omega (arith, bound, is);
+  over = λ lt none. (left (omega (arith, lt, is)), none);
 }
 
 -- ---- what the outside tells ----

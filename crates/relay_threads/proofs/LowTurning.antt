@@ -13,8 +13,8 @@ use Rattle.low_process.specs.declared.values.LowLook.{LowLook}
 use Rattle.low_process.specs.Looks.{row_of, last_of, is_idle, StandsFor, Looks, look_of}
 use Rattle.relay_threads.specs.Heards.{Heard}
 use Rattle.relay_threads.specs.Heards as hears
-use Rattle.relay_threads.specs.declared.low_round.LowWhy.{LowWhy}
-use Rattle.relay_threads.specs.declared.low_round.LowWhy.TheVariants.{LinkFailed, Device, RecordFailed}
+use Rattle.relay_threads.specs.declared.low_served.LowWhy.{LowWhy}
+use Rattle.relay_threads.specs.declared.low_served.LowWhy.TheVariants.{LinkFailed, Device, RecordFailed}
 use Rattle.relay_threads.specs.Hearings.{Ending, AtFrame, AtBad, AtNotYet, AtEnded, AtFailed, AtMost, Hearing, IsHearing, heard_as}
 use Rattle.relay_threads.specs.Records.{Made}
 use Rattle.relay_threads.specs.Replays.{ReadsBack}

@@ -1,26 +1,26 @@
 -- What one link comes to in all.
 use Rattle.std.proofs.Common.{◌≡◌, ℕ, ◌≤◌, ◌<◌, Bool, true, false, List, [], ◌∷◌, length, Option, Some, None, refl, sym, ap, ◌∙◌, subst, append-nil, arith, inl, inr}
-use Rattle.std.specs.Prelude.{◌⊎◌, if◌then◌else◌, not}
+use Rattle.std.specs.Prelude.{◌⊎◌, IfSome, if◌then◌else◌, not}
 use Rattle.std.specs.Io.KnownBytes.{Appends}
 use Rattle.pump_frame.specs.Rows.{IsLawfulRow}
 use Rattle.pump_frame.specs.declared.row.SessionRow.{SessionRow}
 use Rattle.pump_link.proofs.Known.{Appends-then}
 use Rattle.low_process.specs.declared.process.LowProcess.{LowProcess}
-use Rattle.relay_threads.specs.declared.low_round.LowWhy.{LowWhy}
-use Rattle.relay_threads.specs.declared.low_round.LowWhy.TheVariants.{Gone, Bad, LinkFailed, Device, RecordFailed, Looks, Stopped}
+use Rattle.relay_threads.specs.declared.low_served.LowWhy.{LowWhy}
+use Rattle.relay_threads.specs.declared.low_served.LowWhy.TheVariants.{Gone, Bad, LinkFailed, Device, RecordFailed, Looks, Stopped}
 use Rattle.relay_threads.specs.declared.rounds_end.RoundsEnd.{RoundsEnd}
 use Rattle.relay_threads.specs.declared.rounds_end.RoundsEnd.TheVariants.{RecordFailed as RecordBroke}
 use Rattle.relay_threads.specs.Reaching.{Reaches}
 use Rattle.relay_threads.specs.Records.{Made, record_of}
 use Rattle.relay_threads.specs.RecordLines.{looks_text}
 use Rattle.relay_threads.specs.Replays.{ReadsBack}
-use Rattle.relay_threads.specs.LowRounds.{Round, made_after, made_in, AreRounds, GoOn, newest_cause}
+use Rattle.relay_threads.specs.LowRounds.{Round, with_look, made_after, made_in, AreRounds, GoOn, newest_cause}
 use Rattle.relay_threads.specs.LowServes.{Leads, Serves, EndsBy, CountsFault, is_device, all_kept, text_made}
 use Rattle.relay_threads.specs.LowStays.{IsGone, GoneAfter, IsVisit, visited, visit_text, end_at, end_by, is_left_so, is_kept_by, is_ended, IsLeft}
 use Rattle.relay_threads.specs.Workers.{CountsEnd}
 use Rattle.relay_threads.proofs.LowLives.{leads_then}
 use Rattle.relay_threads.proofs.LowServing.{kept_on, broken_round}
-use Rattle.relay_threads.proofs.Reaching.{reaches_behind}
+use Rattle.relay_threads.proofs.Reaching.{reaches_behind, reaches_still}
 
 -- ---- why the newest round left ----
 
@@ -66,52 +66,81 @@ left_of rounds most Stopped never e lt = absurd (never refl)
 
 -- ---- the worker's end ----
 
-pub ends_without : (rounds : List Round) (most : ℕ) (why : LowWhy) (k : Bool) → EndsBy rounds most why → is_left_so why ≡ false → end_by why ≡ end_at (newest_cause rounds) k
-ends_without rounds most Gone k e l = ap (λ x. end_at x k) (sym e.1)
-ends_without rounds most Bad k e l = absurd (cc)
-ends_without rounds most LinkFailed k e l = absurd (cc)
-ends_without rounds most (Device n) k e l = ap (λ x. end_at x k) (sym e.1)
-ends_without rounds most RecordFailed k e l = ap (λ x. end_at x k) (sym e.1)
-ends_without rounds most Looks k e l = ap (λ x. end_at x k) (sym (newest_calm rounds e.1))
-ends_without rounds most Stopped k e l = ap (λ x. end_at x k) (sym (newest_calm rounds e.1))
+-- the end for the answer of the rounds is that for the cause of the newest
+pub ends_as : (rounds : List Round) (most : ℕ) (why : LowWhy) (k : Bool) → EndsBy rounds most why → end_at (Some why) k ≡ end_at (newest_cause rounds) k
+ends_as rounds most Gone k e = ap (λ x. end_at x k) (sym e.1)
+ends_as rounds most Bad k e = ap (λ x. end_at x k) (sym e.1)
+ends_as rounds most LinkFailed k e = ap (λ x. end_at x k) (sym e.1)
+ends_as rounds most (Device n) k e = ap (λ x. end_at x k) (sym e.1)
+ends_as rounds most RecordFailed k e = ap (λ x. end_at x k) (sym e.1)
+ends_as rounds most Looks k e = ap (λ x. end_at x k) (sym (newest_calm rounds e.1))
+ends_as rounds most Stopped k e = ap (λ x. end_at x k) (sym (newest_calm rounds e.1))
 
-pub ends_with : (rounds : List Round) (most : ℕ) (why : LowWhy) (k : Bool) → EndsBy rounds most why → is_left_so why ≡ true → (if k then None else Some RecordBroke) ≡ end_at (newest_cause rounds) k
-ends_with rounds most Gone k e l = absurd (cc)
-ends_with rounds most Bad k e l = ap (λ x. end_at x k) (sym e.1)
-ends_with rounds most LinkFailed k e l = ap (λ x. end_at x k) (sym e.1)
-ends_with rounds most (Device n) k e l = absurd (cc)
-ends_with rounds most RecordFailed k e l = absurd (cc)
-ends_with rounds most Looks k e l = absurd (cc)
-ends_with rounds most Stopped k e l = absurd (cc)
+-- where no look with Gone follows
+pub end_plain : (why : LowWhy) → is_left_so why ≡ false → end_by why ≡ end_at (Some why) true
+end_plain Gone l = refl
+end_plain Bad l = absurd (cc)
+end_plain LinkFailed l = absurd (cc)
+end_plain (Device n) l = refl
+end_plain RecordFailed l = refl
+end_plain Looks l = refl
+end_plain Stopped l = refl
 
--- ---- the looks ----
+-- .. and where one does
+pub end_left : (why : LowWhy) (k : Bool) → is_left_so why ≡ true → (if k then None else Some RecordBroke) ≡ end_at (Some why) k
+end_left Gone k l = absurd (cc)
+end_left Bad k l = refl
+end_left LinkFailed k l = refl
+end_left (Device n) k l = absurd (cc)
+end_left RecordFailed k l = absurd (cc)
+end_left Looks k l = absurd (cc)
+end_left Stopped k l = absurd (cc)
 
-none_after : (rounds : List Round) (most : ℕ) (why : LowWhy) → EndsBy rounds most why → is_left_so why ≡ false → GoneAfter (newest_cause rounds) None
-none_after rounds most Gone e l = subst (λ (c : Option LowWhy). GoneAfter c None) (sym e.1) refl
-none_after rounds most Bad e l = absurd (cc)
-none_after rounds most LinkFailed e l = absurd (cc)
-none_after rounds most (Device n) e l = subst (λ (c : Option LowWhy). GoneAfter c None) (sym e.1) refl
-none_after rounds most RecordFailed e l = subst (λ (c : Option LowWhy). GoneAfter c None) (sym e.1) refl
-none_after rounds most Looks e l = subst (λ (c : Option LowWhy). GoneAfter c None) (sym (newest_calm rounds e.1)) refl
-none_after rounds most Stopped e l = subst (λ (c : Option LowWhy). GoneAfter c None) (sym (newest_calm rounds e.1)) refl
+-- ---- the look with Gone ----
 
-gone_after : (rounds : List Round) (most : ℕ) (why : LowWhy) (m : Made) → EndsBy rounds most why → is_left_so why ≡ true → IsGone m → GoneAfter (newest_cause rounds) (Some m)
-gone_after rounds most Gone m e l is = absurd (cc)
-gone_after rounds most Bad m e l is = subst (λ (c : Option LowWhy). GoneAfter c (Some m)) (sym e.1) (m, refl, is)
-gone_after rounds most LinkFailed m e l is = subst (λ (c : Option LowWhy). GoneAfter c (Some m)) (sym e.1) (m, refl, is)
-gone_after rounds most (Device n) m e l is = absurd (cc)
-gone_after rounds most RecordFailed m e l is = absurd (cc)
-gone_after rounds most Looks m e l is = absurd (cc)
-gone_after rounds most Stopped m e l is = absurd (cc)
+pub none_gone : (why : LowWhy) → is_left_so why ≡ false → GoneAfter (Some why) None
+none_gone Gone l = refl
+none_gone Bad l = absurd (cc)
+none_gone LinkFailed l = absurd (cc)
+none_gone (Device n) l = refl
+none_gone RecordFailed l = refl
+none_gone Looks l = refl
+none_gone Stopped l = refl
 
-pub stays_on : (p q : LowProcess) (rounds : List Round) (most : ℕ) (why : LowWhy) → EndsBy rounds most why → is_left_so why ≡ false → Serves p q rounds → Leads p q (λ row o before. IsVisit row o before rounds None) (λ before. visited before rounds None)
-stays_on p q rounds most why e l s = record { row = s.row; rule = λ o before lives. (s.rule o before lives, none_after rounds most why e l, λ lawful. tt); lives = s.lives }
+pub some_gone : (why : LowWhy) (m : Made) → is_left_so why ≡ true → IsGone m → GoneAfter (Some why) (Some m)
+some_gone Gone m l is = absurd (cc)
+some_gone Bad m l is = (m, refl, is)
+some_gone LinkFailed m l is = (m, refl, is)
+some_gone (Device n) m l is = absurd (cc)
+some_gone RecordFailed m l is = absurd (cc)
+some_gone Looks m l is = absurd (cc)
+some_gone Stopped m l is = absurd (cc)
 
-pub goes : (p q q' : LowProcess) (rounds : List Round) (most : ℕ) (why : LowWhy) (m : Made) → EndsBy rounds most why → is_left_so why ≡ true → IsGone m → Serves p q rounds → Leads q q' (λ row o before. IsLawfulRow row → ReadsBack row before m) (λ before. m ∷ before)
-    → Leads p q' (λ row o before. IsVisit row o before rounds (Some m)) (λ before. visited before rounds (Some m))
-goes p q q' rounds most why m e l is s g =
-    leads_then p q q' (λ row o before. AreRounds row o before rounds) (λ row o before. IsLawfulRow row → ReadsBack row before m) (λ row o before. IsVisit row o before rounds (Some m)) (λ before. made_after before rounds) (λ before. m ∷ before)
-    (λ row o before are back. (are, gone_after rounds most why m e l is, back)) s g
+left_by : (why : LowWhy) (m : Made) → GoneAfter (Some why) (Some m) → is_left_so why ≡ true
+left_by Gone m gone = absurd (cc)
+left_by Bad m gone = refl
+left_by LinkFailed m gone = refl
+left_by (Device n) m gone = absurd (cc)
+left_by RecordFailed m gone = absurd (cc)
+left_by Looks m gone = absurd (cc)
+left_by Stopped m gone = absurd (cc)
+
+gone_as : (rounds : List Round) (most : ℕ) (why : LowWhy) (gone : Option Made) → EndsBy rounds most why → GoneAfter (Some why) gone → GoneAfter (newest_cause rounds) gone
+gone_as rounds most Gone gone e is = subst (λ (c : Option LowWhy). GoneAfter c gone) (sym e.1) is
+gone_as rounds most Bad gone e is = subst (λ (c : Option LowWhy). GoneAfter c gone) (sym e.1) is
+gone_as rounds most LinkFailed gone e is = subst (λ (c : Option LowWhy). GoneAfter c gone) (sym e.1) is
+gone_as rounds most (Device n) gone e is = subst (λ (c : Option LowWhy). GoneAfter c gone) (sym e.1) is
+gone_as rounds most RecordFailed gone e is = subst (λ (c : Option LowWhy). GoneAfter c gone) (sym e.1) is
+gone_as rounds most Looks gone e is = subst (λ (c : Option LowWhy). GoneAfter c gone) (sym (newest_calm rounds e.1)) is
+gone_as rounds most Stopped gone e is = subst (λ (c : Option LowWhy). GoneAfter c gone) (sym (newest_calm rounds e.1)) is
+
+-- the rounds, and that look after them
+pub goes : (p q q' : LowProcess) (rounds : List Round) (most : ℕ) (why : LowWhy) (gone : Option Made) → EndsBy rounds most why → GoneAfter (Some why) gone → Serves p q rounds
+    → Leads q q' (λ row o before. IsLawfulRow row → IfSome gone (ReadsBack row before)) (λ before. with_look gone before)
+    → Leads p q' (λ row o before. IsVisit row o before rounds gone) (λ before. visited before rounds gone)
+goes p q q' rounds most why gone e is s g =
+    leads_then p q q' (λ row o before. AreRounds row o before rounds) (λ row o before. IsLawfulRow row → IfSome gone (ReadsBack row before)) (λ row o before. IsVisit row o before rounds gone) (λ before. made_after before rounds) (λ before. with_look gone before)
+    (λ row o before are back. (are, gone_as rounds most why gone e is, back)) s g
 
 -- ---- the record ----
 
@@ -141,7 +170,7 @@ broken_cause [] e = absurd (cc)
 broken_cause (r ∷ past) e = broken_round r e
 
 -- its lines were written whole, but where the worker's end says that they were not
-same_kept : (rounds : List Round) (most : ℕ) (why : LowWhy) → EndsBy rounds most why → all_kept rounds ≡ is_kept_by (end_by why)
+same_kept : (rounds : List Round) (most : ℕ) (why : LowWhy) → EndsBy rounds most why → all_kept rounds ≡ is_kept_by (end_at (Some why) true)
 same_kept rounds most Gone e = kept_of rounds most Gone e refl
 same_kept rounds most Bad e = kept_of rounds most Bad e refl
 same_kept rounds most LinkFailed e = kept_of rounds most LinkFailed e refl
@@ -151,39 +180,53 @@ same_kept rounds most Looks e = kept_of rounds most Looks e refl
 same_kept rounds most Stopped e = kept_of rounds most Stopped e refl
 
 left_kept : (why : LowWhy) → is_left_so why ≡ true → kept_why why ≡ true
-left_kept Gone k = refl
-left_kept Bad k = refl
-left_kept LinkFailed k = refl
-left_kept (Device n) k = refl
-left_kept RecordFailed k = absurd (cc)
-left_kept Looks k = refl
-left_kept Stopped k = refl
+left_kept Gone l = refl
+left_kept Bad l = refl
+left_kept LinkFailed l = refl
+left_kept (Device n) l = refl
+left_kept RecordFailed l = absurd (cc)
+left_kept Looks l = refl
+left_kept Stopped l = refl
 
-kept_by : (k : Bool) → k ≡ is_kept_by (if k then None else Some RecordBroke)
-kept_by true = refl
-kept_by false = refl
+kept_by : (why : LowWhy) (k : Bool) → is_left_so why ≡ true → k ≡ is_kept_by (end_at (Some why) k)
+kept_by Gone k l = absurd (cc)
+kept_by Bad true l = refl
+kept_by Bad false l = refl
+kept_by LinkFailed true l = refl
+kept_by LinkFailed false l = refl
+kept_by (Device n) k l = absurd (cc)
+kept_by RecordFailed k l = absurd (cc)
+kept_by Looks k l = absurd (cc)
+kept_by Stopped k l = absurd (cc)
 
-module _ (t t1 : Option (List ℕ)) (n n1 : ℕ) (row : SessionRow) (rounds : List Round) (most : ℕ) (why : LowWhy) (e : EndsBy rounds most why)
+module _ (t t1 t2 : Option (List ℕ)) (n n1 n2 : ℕ) (row : SessionRow) (rounds : List Round) (most : ℕ) (why : LowWhy) (e : EndsBy rounds most why)
     (keeps : Reaches (Appends t t1) n n1 (all_kept rounds) (looks_text row (record_of (made_in rounds)))) where
-  pub kept_alone : (end : Option RoundsEnd) → end ≡ end_by why → Reaches (Appends t t1) n n1 (is_kept_by end) (visit_text row rounds None)
-  kept_alone end is =
-      subst (λ (t' : Bool × List ℕ). Reaches (Appends t t1) n n1 t'.0 t'.1)
-      (λ i. ((same_kept rounds most why e ∙ ap is_kept_by (sym is)) i, sym (append-nil (looks_text row (record_of (made_in rounds)))) i)) keeps
-
-  pub kept_both : (t2 : Option (List ℕ)) (n2 : ℕ) (row' : SessionRow) (m : Made) (k : Bool) (end : Option RoundsEnd) → is_left_so why ≡ true → row' ≡ row → end ≡ (if k then None else Some RecordBroke)
-      → Reaches (Appends t1 t2) n1 n2 k (text_made row' [] (Some m)) → Reaches (Appends t t2) n n2 (is_kept_by end) (visit_text row rounds (Some m))
-  kept_both t2 n2 row' m k end left same is line =
+  -- where the worker's lines at a link end with those of the look with Gone, if there is one
+  kept_with : (gone : Option Made) (k : Bool) → GoneAfter (Some why) gone → (gone ≡ None → k ≡ true) → Reaches (Appends t1 t2) n1 n2 k (text_made row [] gone) → Reaches (Appends t t2) n n2 (is_kept_by (end_at (Some why) k)) (visit_text row rounds gone)
+  kept_with None k is none still =
+      let text = looks_text row (record_of (made_in rounds)) in
+      let here : Reaches (Appends t1 t2) n1 n2 true [] = subst (λ (b : Bool). Reaches (Appends t1 t2) n1 n2 b []) (none refl) still in
+      let all : Reaches (Appends t t2) n n2 (all_kept rounds) text = reaches_still (Appends t t1) (Appends t1 t2) (Appends t t2) n n1 n2 (all_kept rounds) text
+      (λ some a b. subst (Appends t t2) (append-nil some) (Appends-then t t1 t2 some [] a b)) keeps here in
+      subst (λ (z : Bool × List ℕ). Reaches (Appends t t2) n n2 z.0 z.1) (λ i. ((same_kept rounds most why e ∙ ap (λ b. is_kept_by (end_at (Some why) b)) (sym (none refl))) i, sym (append-nil text) i)) all
+  kept_with (Some m) k is none line =
+      let left = left_by why m is in
       let first : Appends t t1 (looks_text row (record_of (made_in rounds))) = keeps.whole (kept_of rounds most why e (left_kept why left)) in
-      let here : Reaches (Appends t1 t2) n1 n2 k (text_made row [] (Some m)) = subst (λ (z : SessionRow). Reaches (Appends t1 t2) n1 n2 k (text_made z [] (Some m))) same line in
-      subst (λ (b : Bool). Reaches (Appends t t2) n n2 b (visit_text row rounds (Some m))) (kept_by k ∙ ap is_kept_by (sym is))
-      (reaches_behind (Appends t t2) (Appends t1 t2) n n1 n2 k (looks_text row (record_of (made_in rounds))) (text_made row [] (Some m)) keeps.later (λ rest g. Appends-then t t1 t2 _ rest first g) here)
+      subst (λ (b : Bool). Reaches (Appends t t2) n n2 b (visit_text row rounds (Some m))) (kept_by why k left)
+      (reaches_behind (Appends t t2) (Appends t1 t2) n n1 n2 k (looks_text row (record_of (made_in rounds))) (text_made row [] (Some m)) keeps.later (λ rest g. Appends-then t t1 t2 _ rest first g) line)
+
+  pub kept_left : (row' : SessionRow) (gone : Option Made) (k : Bool) (end : Option RoundsEnd) → GoneAfter (Some why) gone → (gone ≡ None → k ≡ true) → end ≡ end_at (Some why) k → row' ≡ row
+      → Reaches (Appends t1 t2) n1 n2 k (text_made row' [] gone) → Reaches (Appends t t2) n n2 (is_kept_by end) (visit_text row rounds gone)
+  kept_left row' gone k end is none ended same line =
+      subst (λ (x : Option RoundsEnd). Reaches (Appends t t2) n n2 (is_kept_by x) (visit_text row rounds gone)) (sym ended)
+      (kept_with gone k is none (subst (λ (z : SessionRow). Reaches (Appends t1 t2) n1 n2 k (text_made z [] gone)) same line))
 
 -- ---- what an end says ----
 
 -- a call that did not end the worker ended neither by the disk nor by the record
-pub calm_end : (why : LowWhy) (end : Option RoundsEnd) → end ≡ end_by why → is_ended end ≡ false → (is_device why ≡ false) × (why ≡ RecordFailed → ⊥)
-calm_end why end is calm = by_cases why (ap is_ended (sym is) ∙ calm) where
-  by_cases : (why : LowWhy) → is_ended (end_by why) ≡ false → (is_device why ≡ false) × (why ≡ RecordFailed → ⊥)
+pub calm_end : (why : LowWhy) (k : Bool) (end : Option RoundsEnd) → end ≡ end_at (Some why) k → is_ended end ≡ false → (is_device why ≡ false) × (why ≡ RecordFailed → ⊥)
+calm_end why k end is calm = by_cases why (ap is_ended (sym is) ∙ calm) where
+  by_cases : (why : LowWhy) → is_ended (end_at (Some why) k) ≡ false → (is_device why ≡ false) × (why ≡ RecordFailed → ⊥)
   by_cases Gone calm = (refl, λ e. cc)
   by_cases Bad calm = (refl, λ e. cc)
   by_cases LinkFailed calm = (refl, λ e. cc)
@@ -192,20 +235,18 @@ calm_end why end is calm = by_cases why (ap is_ended (sym is) ∙ calm) where
   by_cases Looks calm = (refl, λ e. cc)
   by_cases Stopped calm = (refl, λ e. cc)
 
-pub end_counts : (why : LowWhy) (end : Option RoundsEnd) (before now : ℕ) → end ≡ end_by why → CountsFault why before now → CountsEnd end before now
-end_counts why end before now is counted = subst (λ e. CountsEnd e before now) (sym is) (by_cases why counted) where
-  by_cases : (why : LowWhy) → CountsFault why before now → CountsEnd (end_by why) before now
-  by_cases Gone counted = tt
-  by_cases Bad counted = tt
-  by_cases LinkFailed counted = tt
-  by_cases (Device n) counted = counted
-  by_cases RecordFailed counted = tt
-  by_cases Looks counted = tt
-  by_cases Stopped counted = tt
-
-pub kept_counts : (k : Bool) (end : Option RoundsEnd) (before now : ℕ) → end ≡ (if k then None else Some RecordBroke) → CountsEnd end before now
-kept_counts true end before now is = subst (λ e. CountsEnd e before now) (sym is) tt
-kept_counts false end before now is = subst (λ e. CountsEnd e before now) (sym is) tt
+pub end_counts : (why : LowWhy) (k : Bool) (end : Option RoundsEnd) (before now : ℕ) → end ≡ end_at (Some why) k → CountsFault why before now → CountsEnd end before now
+end_counts why k end before now is counted = subst (λ e. CountsEnd e before now) (sym is) (by_cases why k counted) where
+  by_cases : (why : LowWhy) (k : Bool) → CountsFault why before now → CountsEnd (end_at (Some why) k) before now
+  by_cases Gone k counted = tt
+  by_cases Bad true counted = tt
+  by_cases Bad false counted = tt
+  by_cases LinkFailed true counted = tt
+  by_cases LinkFailed false counted = tt
+  by_cases (Device n) k counted = counted
+  by_cases RecordFailed k counted = tt
+  by_cases Looks k counted = tt
+  by_cases Stopped k counted = tt
 
 -- a call after which a look with Gone follows ended so, too
 pub left_calm : (why : LowWhy) → is_left_so why ≡ true → (is_device why ≡ false) × (why ≡ RecordFailed → ⊥)

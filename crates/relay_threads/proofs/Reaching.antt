@@ -1,5 +1,5 @@
 -- Bytes that reach the other side, one piece after another.
-use Rattle.std.proofs.Common.{◌≡◌, Option, ℕ, ◌≤◌, Bool, true, List, [], ◌++◌, sym, ap, ◌∙◌, subst, append-nil, append_assoc, arith}
+use Rattle.std.proofs.Common.{◌≡◌, Option, ℕ, ◌≤◌, Bool, true, List, [], ◌++◌, refl, sym, ap, ◌∙◌, subst, append-nil, append_assoc, arith}
 use Rattle.std.specs.Prelude.{Result, Ok, Err, OnOk, OnErr, is_ok}
 use Rattle.std.specs.Io.KnownBytes.{Appends}
 use Rattle.pump_frame.specs.Counts.{Rose}
@@ -32,6 +32,16 @@ reaches_behind Adds More before mid now is_whole first bytes le adds r = record 
   prefix = (first ++ r.prefix.0, r.prefix.1, ap (λ (z : List ℕ). first ++ z) r.prefix.2 ∙ sym (append_assoc first r.prefix.0 r.prefix.1), adds r.prefix.0 r.prefix.3);
   cause = λ e. rose_later before mid now le (r.cause e);
   later = omega (arith, le, r.later);
+}
+
+-- bytes, and then nothing more
+pub reaches_still : (Adds More All : List ℕ → Type 0) (before mid now : ℕ) (is_whole : Bool) (bytes : List ℕ)
+    → ((some : List ℕ) → Adds some → More [] → All some) → Reaches Adds before mid is_whole bytes → Reaches More mid now true [] → Reaches All before now is_whole bytes
+reaches_still Adds More All before mid now is_whole bytes all r still = record {
+  whole = λ e. all bytes (r.whole e) (still.whole refl);
+  prefix = (r.prefix.0, r.prefix.1, r.prefix.2, all r.prefix.0 r.prefix.3 (still.whole refl));
+  cause = λ e. rose_earlier before mid now (r.cause e) still.later;
+  later = omega (arith, r.later, still.later);
 }
 
 -- a write of all of them

@@ -4,6 +4,7 @@ pub mod HighEnds
 pub mod HighRounds
 pub mod HighServes
 pub mod HighStays
+pub mod HighWorkers
 pub mod Levels
 pub mod LowEnds
 pub mod LowRounds
@@ -11,6 +12,8 @@ pub mod LowServes
 pub mod Pairs
 pub mod PairsRead
 pub mod LowStays
+pub mod LowWorkers
+pub mod LowWorks
 pub mod Reaching
 pub mod RecordLines
 pub mod Records

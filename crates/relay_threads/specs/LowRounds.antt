@@ -14,8 +14,8 @@ use Rattle.pump_core.specs.History.{Arrival, Opening}
 use Rattle.pump_core.specs.History.{Nothing, Came, Bad, Gone}
 use Rattle.pump_core.specs.Exchanges.{Part, IsCut}
 use Rattle.pump_core.specs.Comings.{may_take}
-use Rattle.relay_threads.specs.declared.low_round.LowWhy.{LowWhy}
-use Rattle.relay_threads.specs.declared.low_round.LowWhy.TheVariants as whys
+use Rattle.relay_threads.specs.declared.low_served.LowWhy.{LowWhy}
+use Rattle.relay_threads.specs.declared.low_served.LowWhy.TheVariants as whys
 use Rattle.relay_threads.specs.Hearings.{Ending, AtFrame, AtBad, AtNotYet, AtEnded, AtFailed, AtMost, Hearing}
 use Rattle.relay_threads.specs.Hearings.{IsHearing, looks_in, held_by}
 use Rattle.relay_threads.specs.Records.{Made, life_made, replies_made}

@@ -15,9 +15,9 @@ use Rattle.low_process.specs.declared.process.LowProcess.{LowProcess}
 use Rattle.low_process.specs.Looks.{row_of, StandsFor}
 use Rattle.relay_threads.specs.Heards.{Heard}
 use Rattle.relay_threads.specs.Heards as hears
-use Rattle.relay_threads.specs.declared.low_round.LowWhy.{LowWhy}
-use Rattle.relay_threads.specs.declared.low_round.LowWhy.TheVariants as whys
-use Rattle.relay_threads.specs.declared.low_serving.LowServed.{LowServed}
+use Rattle.relay_threads.specs.declared.low_served.LowWhy.{LowWhy}
+use Rattle.relay_threads.specs.declared.low_served.LowWhy.TheVariants as whys
+use Rattle.relay_threads.specs.declared.low_served.LowServed.{LowServed}
 use Rattle.relay_threads.specs.Hearings.{Hearing, IsHearing, Leaves, heard_as}
 use Rattle.relay_threads.specs.LowRounds.{Round, with_look, made_after, looks_heard, IsRound, GoOn, AreRounds}
 use Rattle.relay_threads.specs.LowRounds.{newest_cause, ask_after, asks_of}

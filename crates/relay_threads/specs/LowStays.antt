@@ -12,8 +12,8 @@ use Rattle.pump_link.specs.declared.link.Looked.{Looked}
 use Rattle.pump_core.specs.History.{Opening}
 use Rattle.pump_core.specs.History.{Gone as CameGone}
 use Rattle.low_process.specs.declared.process.LowProcess.{LowProcess}
-use Rattle.relay_threads.specs.declared.low_round.LowWhy.{LowWhy}
-use Rattle.relay_threads.specs.declared.low_round.LowWhy.TheVariants.{Bad, LinkFailed, Device, RecordFailed}
+use Rattle.relay_threads.specs.declared.low_served.LowWhy.{LowWhy}
+use Rattle.relay_threads.specs.declared.low_served.LowWhy.TheVariants.{Bad, LinkFailed, Device, RecordFailed}
 use Rattle.relay_threads.specs.declared.rounds_end.RoundsEnd.{RoundsEnd}
 use Rattle.relay_threads.specs.declared.rounds_end.RoundsEnd.TheVariants.{Rounds, Device as DeviceBroke}
 use Rattle.relay_threads.specs.declared.rounds_end.RoundsEnd.TheVariants.{RecordFailed as RecordBroke}
@@ -213,13 +213,7 @@ abbrev pub is_ended : Option RoundsEnd → Bool
 is_ended None = false
 is_ended (Some end) = true
 
--- what a visit of at most so many rounds came to
-pub record EndsVisit (rounds : List Round) (is_kept : Bool) (most : ℕ) (s : Stayed) : Type 0 where
-  pub end : s.end ≡ end_at (newest_cause rounds) is_kept
-  pub looks : s.looks ≡ length rounds
-  pub bound : length rounds ≤ most
-  pub left : length rounds < most → IsLeft rounds
-
+-- what a stay of at most so many rounds came to
 pub record EndsStay {L : Type 0} (x : Stay L) (most : ℕ) (s : Stayed) : Type 0 where
   pub end : s.end ≡ stay_end x
   pub looks : s.looks ≡ count_at x

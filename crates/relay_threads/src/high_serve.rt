@@ -11,10 +11,12 @@ ghost use Rattle.relay_threads.specs.Workers.{SendsPrefix};
 ghost use Rattle.relay_threads.specs.HighRounds.{Round, looks_of_rounds, moments, data_sent, asks_of};
 ghost use Rattle.relay_threads.specs.HighEnds.{TakesSo};
 ghost use Rattle.relay_threads.specs.HighServes.{Serves, IsServed, all_sent, is_device, CountsFault};
+ghost use Rattle.relay_threads.specs.HighWorkers.{CanGoOn, GoesOn};
 
 use crate::gate::Gate;
 use crate::high_round::HighConnection;
 use crate::high_served::{HighServed, HighWhy};
+use crate::high_worker::HighWorker;
 use disk_model::Disk;
 use high_process::HighProcess;
 use passage::WaitHighEnd;
@@ -28,6 +30,56 @@ fn counted(removed: u64, has_removed: bool) -> u64
     ensures { result ≡ removed + (if has_removed then 1 else 0) }
 {
     if has_removed { removed + 1 } else { removed }
+}
+
+impl<K: Clock, D: Disk, H: WaitHighEnd> HighWorker<'_, '_, '_, '_, K, D, H> {
+    /// Serves one connection, as `serve_high` does.
+    pub fn serve<R: Wait, C: Link, G: Gate>(
+        &mut self,
+        rt: &R,
+        link: &mut C,
+        gate: &mut G,
+        looks: u64,
+    ) -> HighServed
+        requires can { CanGoOn K.floor D.told H.stands self.old }
+        ensures served { (rounds : List Round) × Serves self.old.process.now self.new.process.now rounds
+            × IsServed rounds looks result
+            × Draws (C.gives link.old) (C.gives link.new) (looks_of_rounds rounds)
+            × SendsPrefix (C.sent link.old) (C.sent link.new) (all_sent rounds)
+            (spellings (data_sent (row_of self.old.process.now).id rounds))
+            × Draws (K.reads self.old.clock.now) (K.reads self.new.clock.now) (moments rounds)
+            × Grows (G.asked gate.old) (G.asked gate.new) (asks_of result.why rounds)
+            × TakesSo H.stands self.old.ends.now self.new.ends.now self.old.process.now self.new.process.now rounds }
+        ensures goes_on { GoesOn K.floor D.told H.stands H.shape H.place self.old self.new }
+        ensures up { is_device result.why ≡ false → is_down self.new.process.now ≡ false }
+        ensures link { result.why ≡ LinkFailed → Rose (C.faults link.old) (C.faults link.new) }
+        ensures device { CountsFault result.why (D.told.count (high_disk self.old.store.now))
+            (D.told.count (high_disk self.new.store.now)) }
+        ensures stopped { result.why ≡ Stopped → Rose (G.stops gate.old) (G.stops gate.new) }
+        ensures went { (result.why ≡ Stopped → ⊥) → G.stops gate.new ≡ G.stops gate.old }
+    {
+        let mut connection = HighConnection::new();
+        let mut rounds = 0;
+        let mut removed = 0;
+        while rounds < looks {
+            if !gate.pass(rt, rounds, removed) {
+                return HighServed {
+                    why: HighWhy::Stopped,
+                    looks: rounds,
+                };
+            }
+            let turn = connection.round(rt, link, self);
+            rounds += 1;
+            if let Some(why) = turn.why {
+                return HighServed { why, looks: rounds };
+            }
+            removed = counted(removed, turn.has_removed);
+        }
+        HighServed {
+            why: HighWhy::Looks,
+            looks: rounds,
+        }
+    }
 }
 
 /// Serves one connection of a receiver, with at most `looks` rounds (`docs/design.md`,
@@ -74,25 +126,11 @@ pub fn serve_high<R: Wait, C: Link, K: Clock, D: Disk, H: WaitHighEnd, G: Gate>(
     ensures stopped { result.why ≡ Stopped → Rose (G.stops gate.old) (G.stops gate.new) }
     ensures went { (result.why ≡ Stopped → ⊥) → G.stops gate.new ≡ G.stops gate.old }
 {
-    let mut connection = HighConnection::new();
-    let mut rounds = 0;
-    let mut removed = 0;
-    while rounds < looks {
-        if !gate.pass(rt, rounds, removed) {
-            return HighServed {
-                why: HighWhy::Stopped,
-                looks: rounds,
-            };
-        }
-        let turn = connection.round(rt, link, clock, process, store, ends);
-        rounds += 1;
-        if let Some(why) = turn.why {
-            return HighServed { why, looks: rounds };
-        }
-        removed = counted(removed, turn.has_removed);
-    }
-    HighServed {
-        why: HighWhy::Looks,
-        looks: rounds,
-    }
+    let mut worker = HighWorker {
+        clock,
+        process,
+        store,
+        ends,
+    };
+    worker.serve(rt, link, gate, looks)
 }

@@ -8,9 +8,8 @@ ghost use Rattle.pump_link.specs.Tells.{Draws, Grows};
 ghost use Rattle.pump_core.specs.ReplyFrames.{frame_of, IsLawfulReply};
 ghost use Rattle.pump_core.specs.Step.{is_full};
 ghost use Rattle.stable_buffer.specs.Low.{low_disk};
-ghost use Rattle.low_process.specs.Ready.{Ready};
-ghost use Rattle.low_process.specs.Looks.{arrival_of, row_of, last_of, is_down, IsLawful as CanCome};
-ghost use Rattle.relay_threads.specs.declared.low_round.LowWhy.TheVariants.{LinkFailed, RecordFailed};
+ghost use Rattle.low_process.specs.Looks.{arrival_of, row_of, is_down, IsLawful as CanCome};
+ghost use Rattle.relay_threads.specs.declared.low_served.LowWhy.TheVariants.{LinkFailed, RecordFailed};
 ghost use Rattle.relay_threads.specs.Heards.{heard_with};
 ghost use Rattle.relay_threads.specs.Hearings.{held_in, IsLawfulHeard};
 ghost use Rattle.relay_threads.specs.Levels.{IsEndOf};
@@ -21,39 +20,22 @@ ghost use Rattle.relay_threads.specs.Records.{Made, was_full as full_before};
 ghost use Rattle.relay_threads.specs.RecordLines.{HasLawfulFrame};
 ghost use Rattle.relay_threads.specs.LowRounds.{Round, with_look, looks_heard, is_ack, is_ack_made, cause};
 ghost use Rattle.relay_threads.specs.LowServes.{Turns, LeavesIf, HearsIf, arrival_heard, is_failed, text_made, why_by};
+ghost use Rattle.relay_threads.specs.LowWorkers.{CanGoOn, KeepsWorker};
 ghost use Rattle.relay_threads.specs.LowServes.{is_device_in, CountsFaultIn, bytes_of, bytes_made, full_after};
 
 use crate::hear::{HeardHead, hear};
+use crate::low_served::LowWhy;
+use crate::low_worker::LowWorker;
 use crate::record::LookMade;
 use crate::tape::{LookRoom, record_look};
 use arrayvec::ArrayVec;
 use disk_model::Disk;
-use low_process::{Arrival, LookHead, LowProcess};
+use low_process::{Arrival, LookHead};
 use passage::WaitLowEnd;
 use pump_core::{Feedback, Reply};
 use pump_frame::{Frame, Reader, encode};
 use pump_link::{Clock, Link, Sink, Words};
-use stable_buffer::LowStore;
 use std::sync::Wait;
-
-/// Why the low worker left a connection.
-#[derive(Clone, Copy, PartialEq, Eq, Debug)]
-pub enum LowWhy {
-    /// The other side is gone.
-    Gone,
-    /// It sent bytes that are no frame.
-    Bad,
-    /// A look at the link or a send failed, and its count of faults rose.
-    LinkFailed,
-    /// The low disk failed, and its count of faults rose to this. The process is down.
-    Device { faults: u64 },
-    /// The record could not be written, and the tape's count of faults rose.
-    RecordFailed,
-    /// So many rounds were made as there may be.
-    Looks,
-    /// The gate stopped the worker, and its count of stops rose.
-    Stopped,
-}
 
 /// What a round came to.
 #[derive(Clone, Copy)]
@@ -72,6 +54,8 @@ pub struct LowConnection {
     pub reader: Reader,
     /// A frame is read into it.
     pub room: Frame,
+    /// The bytes of a reply are made in it.
+    pub bytes: ArrayVec<u8, 1042>,
     /// The lines of a look are made in it, where there is a record.
     pub lines: LookRoom,
 }
@@ -85,6 +69,7 @@ impl LowConnection {
         LowConnection {
             reader: Reader::new(),
             room: Frame::room(),
+            bytes: ArrayVec::new(),
             lines: LookRoom::new(),
         }
     }
@@ -124,8 +109,13 @@ fn arrival_in(heard: HeardHead, room: &Frame) -> Arrival<'_>
     }
 }
 
-// Sends a reply, if there is one. False where it was not sent whole.
-fn answer<C: Link>(link: &mut C, session: u32, reply: &Option<Reply>) -> bool
+// Sends a reply, if there is one, whose bytes are made in the room. False where it was not sent whole.
+fn answer<C: Link>(
+    link: &mut C,
+    session: u32,
+    reply: &Option<Reply>,
+    bytes: &mut ArrayVec<u8, 1042>,
+) -> bool
     requires { IfSome reply.now IsLawfulReply }
     ensures sent { Reaches (Grows (C.sent link.old) (C.sent link.new)) (C.faults link.old) (C.faults link.new) result
         (bytes_of (option_map (frame_of session) reply.now)) }
@@ -134,8 +124,7 @@ fn answer<C: Link>(link: &mut C, session: u32, reply: &Option<Reply>) -> bool
     let Some(reply) = reply else {
         return true;
     };
-    let mut bytes = ArrayVec::new();
-    encode(&reply.frame(session), &mut bytes);
+    encode(&reply.frame(session), bytes);
     link.send(bytes.as_slice()).is_ok()
 }
 
@@ -184,75 +173,92 @@ fn why_left(
     }
 }
 
-/// Makes one round of a low worker (`docs/design.md`, "Serving"): it draws a moment and a word,
-/// reads where the process wants what comes, makes a look, sends its reply, and records it, also where
-/// the send failed. Where the link failed in the reading, there is no look.
-pub fn low_round<R: Wait, C: Link, K: Clock, W: Words, D: Disk, L: WaitLowEnd, O: Sink>(
-    rt: &R,
-    link: &mut C,
-    clock: &mut K,
-    words: &mut W,
-    process: &mut LowProcess,
-    store: &mut LowStore<D>,
-    ends: &mut L,
-    tape: &mut O,
-    connection: &mut LowConnection,
-    was_full: bool,
-) -> LowTurn
-    requires within { connection.old.reader ≡ Within (held_in connection.old.reader) }
-    requires begun { HasBegun connection.old.reader }
-    requires ready { Ready D.told process.old store.old (L.stands ends.old) }
-    requires up { is_down process.old ≡ false }
-    requires order { last_of process.old ≤ K.floor clock.old }
-    ensures turn { (r : Round) × Turns process.old process.new (held_in connection.old.reader) r
-        × LeavesIf (held_in connection.old.reader) r.heard connection.new.reader
-        × Draws (C.gives link.old) (C.gives link.new) (looks_heard r.heard)
-        × Reaches (Grows (C.sent link.old) (C.sent link.new)) (C.faults link.old) (C.faults link.new) r.is_sent
-        (bytes_made r.made)
-        × Draws (K.reads clock.old) (K.reads clock.new) (r.moment ∷ [])
-        × Draws (W.gives words.old) (W.gives words.new) (r.word ∷ [])
-        × ((before : List Made) → was_full ≡ full_before before
-        → Reaches (Appends (O.written tape.old) (O.written tape.new)) (O.faults tape.old) (O.faults tape.new) r.is_kept
-        (text_made (row_of process.old) before r.made))
-        × (result.why ≡ cause r) × (result.is_full ≡ full_after was_full r.made)
-        × (result.is_acked ≡ is_ack_made r.made)
-        × (IsEndOf L.stands L.shape ends.old (row_of process.old) → IfSome r.made (TellsLevel (row_of process.old)))
-        × DoesSo L.stands L.shape ends.old ends.new process.old process.new (with_look r.made [])
-        × StoresSo D.told store.old store.new process.old process.new (with_look r.made []) }
-    ensures begun { HasBegun connection.new.reader }
-    ensures ready { Ready D.told process.new store.new (L.stands ends.new) }
-    ensures up { is_device_in result.why ≡ false → (result.why ≡ Some RecordFailed → ⊥) → is_down process.new ≡ false }
-    ensures order { last_of process.new ≤ K.floor clock.new }
-    ensures shape { L.shape ends.new ≡ L.shape ends.old }
-    ensures place { L.place ends.new ≡ L.place ends.old }
-    ensures link { result.why ≡ Some LinkFailed → Rose (C.faults link.old) (C.faults link.new) }
-    ensures counts { D.told.count (low_disk store.old) ≤ D.told.count (low_disk store.new) }
-    ensures device { CountsFaultIn result.why (D.told.count (low_disk store.old)) (D.told.count (low_disk store.new)) }
-{
-    let moment = clock.moment();
-    let word = words.word();
-    let heard = hear_if(process.wants(), link, connection);
-    if is_failed(heard) {
-        return LowTurn {
-            why: Some(LowWhy::LinkFailed),
-            is_full: was_full,
-            is_acked: false,
+impl<K: Clock, W: Words, D: Disk, L: WaitLowEnd, O: Sink> LowWorker<
+    '_,
+    '_,
+    '_,
+    '_,
+    '_,
+    '_,
+    K,
+    W,
+    D,
+    L,
+    O,
+> {
+    /// Makes one round (`docs/design.md`, "Serving"): it draws a moment and a word, reads where the process
+    /// wants what comes, makes a look, sends its reply, and records it, also where the send failed. Where the
+    /// link failed in the reading, there is no look.
+    pub fn round<R: Wait, C: Link>(
+        &mut self,
+        rt: &R,
+        link: &mut C,
+        connection: &mut LowConnection,
+        was_full: bool,
+    ) -> LowTurn
+        requires within { connection.old.reader ≡ Within (held_in connection.old.reader) }
+        requires begun { HasBegun connection.old.reader }
+        requires can { CanGoOn K.floor D.told L.stands self.old }
+        ensures turn { (r : Round)
+            × Turns self.old.process.now self.new.process.now (held_in connection.old.reader) r
+            × LeavesIf (held_in connection.old.reader) r.heard connection.new.reader
+            × Draws (C.gives link.old) (C.gives link.new) (looks_heard r.heard)
+            × Reaches (Grows (C.sent link.old) (C.sent link.new)) (C.faults link.old) (C.faults link.new) r.is_sent
+            (bytes_made r.made)
+            × Draws (K.reads self.old.clock.now) (K.reads self.new.clock.now) (r.moment ∷ [])
+            × Draws (W.gives self.old.words.now) (W.gives self.new.words.now) (r.word ∷ [])
+            × ((before : List Made) → was_full ≡ full_before before
+            → Reaches (Appends (O.written self.old.tape.now) (O.written self.new.tape.now))
+            (O.faults self.old.tape.now) (O.faults self.new.tape.now) r.is_kept
+            (text_made (row_of self.old.process.now) before r.made))
+            × (result.why ≡ cause r) × (result.is_full ≡ full_after was_full r.made)
+            × (result.is_acked ≡ is_ack_made r.made)
+            × (IsEndOf L.stands L.shape self.old.ends.now (row_of self.old.process.now)
+            → IfSome r.made (TellsLevel (row_of self.old.process.now)))
+            × DoesSo L.stands L.shape self.old.ends.now self.new.ends.now self.old.process.now self.new.process.now
+            (with_look r.made [])
+            × StoresSo D.told self.old.store.now self.new.store.now self.old.process.now self.new.process.now
+            (with_look r.made []) }
+        ensures begun { HasBegun connection.new.reader }
+        ensures keeps { KeepsWorker K.floor D.told L.stands L.shape L.place self.old self.new }
+        ensures up { is_device_in result.why ≡ false → (result.why ≡ Some RecordFailed → ⊥)
+            → is_down self.new.process.now ≡ false }
+        ensures link { result.why ≡ Some LinkFailed → Rose (C.faults link.old) (C.faults link.new) }
+        ensures device { CountsFaultIn result.why (D.told.count (low_disk self.old.store.now))
+            (D.told.count (low_disk self.new.store.now)) }
+    {
+        let moment = self.clock.moment();
+        let word = self.words.word();
+        let heard = hear_if(self.process.wants(), link, connection);
+        if is_failed(heard) {
+            return LowTurn {
+                why: Some(LowWhy::LinkFailed),
+                is_full: was_full,
+                is_acked: false,
+            };
+        }
+        let arrival = arrival_in(heard, &connection.room);
+        let mut look = LookHead::new();
+        self.process.look_waiting_into(rt, moment, word, arrival, self.store, self.ends, &mut look);
+        let made = LookMade {
+            moment,
+            word,
+            arrival,
+            look,
         };
-    }
-    let arrival = arrival_in(heard, &connection.room);
-    let mut look = LookHead::new();
-    process.look_waiting_into(rt, moment, word, arrival, store, ends, &mut look);
-    let made = LookMade {
-        moment,
-        word,
-        arrival,
-        look,
-    };
-    let is_sent = answer(link, process.row().id, &look.reply);
-    let is_kept = record_look(tape, process.row(), &made, was_full, &mut connection.lines);
-    LowTurn {
-        why: why_left(is_kept, process.is_down(), store.faults(), is_sent, heard),
-        is_full: is_full(&look),
-        is_acked: is_ack(&look.reply),
+        let row = self.process.row();
+        let is_sent = answer(link, row.id, &look.reply, &mut connection.bytes);
+        let is_kept = record_look(self.tape, row, &made, was_full, &mut connection.lines);
+        LowTurn {
+            why: why_left(
+                is_kept,
+                self.process.is_down(),
+                self.store.faults(),
+                is_sent,
+                heard,
+            ),
+            is_full: is_full(&look),
+            is_acked: is_ack(&look.reply),
+        }
     }
 }

@@ -19,7 +19,9 @@ use low_process::{Arrival, LookHead};
 use moving_avg::down;
 use pump_core::{Feedback, Refusal, Reply};
 use pump_frame::{SessionRow, encode};
-use script_reader::{ArrivingHead, EventHead, LineHead, ToldFeedback, append_head, append_line};
+use script_reader::{
+    Act, ArrivingHead, EventHead, LineHead, ToldFeedback, append_head, append_line,
+};
 
 /// A look that a low process made: its moment in microseconds, the random word from which a delay was
 /// made, what it was offered, and what it did.
@@ -108,19 +110,26 @@ fn head_of(row: &SessionRow, made: &LookMade, body: &mut ArrayVec<u8, 1042>) -> 
     ensures value { line_with body.new.items result ≡ line_of row.now (made_by row.now made.now) }
     ensures room { CanHoldLine result body.new.items }
 {
+    let session = row.id;
+    let moment = made.moment;
     if matches!(made.arrival, Arrival::Gone) {
-        return LineHead::Gone {
-            session: row.id,
-            moment: made.moment,
+        let act = Act::Gone;
+        return LineHead::At {
+            session,
+            moment,
+            act,
         };
     }
-    LineHead::Told {
-        session: row.id,
-        moment: made.moment,
+    let act = Act::Told {
         word: made.word,
         fault: tells_fault(&made.look.reply),
         feedback: told(row, &made.look.feedback),
         arrival: taken_into(made, body),
+    };
+    LineHead::At {
+        session,
+        moment,
+        act,
     }
 }
 

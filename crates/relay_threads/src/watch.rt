@@ -1,7 +1,7 @@
 // Who is told of what happens at the doors of a relay.
 
 use crate::high_served::HighWhy;
-use crate::low_round::LowWhy;
+use crate::low_served::LowWhy;
 use crate::rounds_end::RoundsEnd;
 
 /// Is told what happens at the doors of a relay, at once and by the worker of that door, in its own thread.

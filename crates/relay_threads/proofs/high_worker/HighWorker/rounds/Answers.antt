@@ -2,25 +2,23 @@ use Rattle.std.proofs.Common.{◌≤◌, ◌+◌, ◌-◌, [], ◌∷◌, refl, 
 use Rattle.pump_link.proofs.Grown.{Draws-nil, Draws-then, Grows-nil, Grows-then}
 use Rattle.relay_threads.specs.HighStays.{count, count_at, EndsStayBy, is_broken}
 use Rattle.relay_threads.proofs.HighEnding.{takes_nothing, stays_take}
+use Rattle.relay_threads.proofs.HighGoing.{goes_none, goes_then, can_again}
 use Rattle.relay_threads.proofs.HighStaying.{stays_none, stays_more, tells_at, worker_ends, end_since}
-use Rattle.relay_threads.proofs.high_stays.high_rounds.Goals as goal
+use Rattle.relay_threads.proofs.high_worker.HighWorker.rounds.Goals as goal
 
 pub loop-made-init : goal.loop-made-init
 loop-made-init g c = record {
   stays = [];
-  so = stays_none c.args.process.now;
-  takes = takes_nothing g.H.HighSide.stands c.args.ends.now c.args.process.now;
+  so = stays_none c.args.self.now.process.now;
+  takes = takes_nothing g.H.HighSide.stands c.args.self.now.ends.now c.args.self.now.process.now;
   over = λ lt. tt;
   calm = refl;
   told = record { door = Grows-nil _; came = Draws-nil _; links = tt; moments = Draws-nil _ };
   made = refl;
   port = λ n h. h;
   most = omega arith;
-  ready = c.requires.ready;
-  order = c.requires.order;
-  shape = refl;
-  place = refl;
-  counts = omega arith;
+  can = c.requires.can;
+  goes_on = goes_none g.K.Clock.floor g.D.Disk.told g.H.HighSide.stands g.H.HighSide.shape g.H.HighSide.place c.args.self.now c.requires.can;
 }
 
 pub returns-in-Some : goal.returns-in-Some
@@ -33,22 +31,18 @@ returns-in-Some g c = record {
       let past = was.stays in
       let le : count past + count_at x ≤ c.args.rounds = omega (arith, was.made, s.2.bound, c.loop-made-test.true, c.from-most.ensures) in (
         x ∷ past,
-        stays_more c.args.process.now c.loop-made.process c.stay-turn.new.process x past was.ready.up (was.over c.loop-made-test.true) was.so s.1,
+        stays_more c.args.self.now.process.now c.loop-made.self.process.now c.stay-turn.new.self.process.now x past was.can.ready.up (was.over c.loop-made-test.true) was.so s.1,
         worker_ends x past c.args.rounds (c.from-most.result - c.loop-made.made) c.stay-turn.result.looks c.in-Some.end le (subst (λ e. EndsStayBy x (c.from-most.result - c.loop-made.made) c.stay-turn.result.looks e) c.in-Some.is s.2.ends),
         Grows-then _ _ _ _ _ t.door s.3,
         Draws-then _ _ _ _ _ t.came s.4,
-        (tells_at _ _ _ c.args.process.now c.loop-made.process x was.so.row s.5, t.links),
+        (tells_at _ _ _ c.args.self.now.process.now c.loop-made.self.process.now x was.so.row s.5, t.links),
         Draws-then _ _ _ _ _ t.moments s.6,
-        stays_take g.H.HighSide.stands c.args.ends.now c.loop-made.ends c.stay-turn.new.ends c.args.process.now c.loop-made.process c.stay-turn.new.process x past was.so.row (was.so.past was.ready.up) was.takes s.7,
+        stays_take g.H.HighSide.stands c.args.self.now.ends.now c.loop-made.self.ends.now c.stay-turn.new.self.ends.now c.args.self.now.process.now c.loop-made.self.process.now c.stay-turn.new.self.process.now x past was.so.row (was.so.past was.can.ready.up) was.takes s.7,
       );
   port = λ n h. c.stay-turn.ensures.port n (c.loop-made.invariant.port n h);
-  ready = c.stay-turn.ensures.ready;
+  goes_on = goes_then g.K.Clock.floor g.D.Disk.told g.H.HighSide.stands g.H.HighSide.shape g.H.HighSide.place c.args.self.now c.loop-made.self c.stay-turn.new.self c.loop-made.invariant.goes_on c.stay-turn.ensures.goes_on;
   up = λ calm. c.stay-turn.ensures.up (ap is_broken c.in-Some.is ∙ calm);
-  order = c.stay-turn.ensures.order;
-  shape = c.stay-turn.ensures.shape ∙ c.loop-made.invariant.shape;
-  place = c.stay-turn.ensures.place ∙ c.loop-made.invariant.place;
-  counts = omega (arith, c.loop-made.invariant.counts, c.stay-turn.ensures.counts);
-  device = end_since c.stay-turn.result.end c.in-Some.end _ _ _ c.in-Some.is c.loop-made.invariant.counts c.stay-turn.ensures.device;
+  device = end_since c.stay-turn.result.end c.in-Some.end _ _ _ c.in-Some.is c.loop-made.invariant.goes_on.counts c.stay-turn.ensures.device;
 }
 
 pub loop-made-preserved : goal.loop-made-preserved
@@ -61,24 +55,21 @@ loop-made-preserved g c =
     let ends : EndsStayBy x (c.from-most.result - c.loop-made.made) c.stay-turn.result.looks None = subst (λ e. EndsStayBy x (c.from-most.result - c.loop-made.made) c.stay-turn.result.looks e) c.in_default.is s.2.ends in
     record {
       stays = x ∷ past;
-      so = stays_more c.args.process.now c.loop-made.process c.stay-turn.new.process x past was.ready.up (was.over c.loop-made-test.true) was.so s.1;
-      takes = stays_take g.H.HighSide.stands c.args.ends.now c.loop-made.ends c.stay-turn.new.ends c.args.process.now c.loop-made.process c.stay-turn.new.process x past was.so.row (was.so.past was.ready.up) was.takes s.7;
+      so = stays_more c.args.self.now.process.now c.loop-made.self.process.now c.stay-turn.new.self.process.now x past was.can.ready.up (was.over c.loop-made-test.true) was.so s.1;
+      takes = stays_take g.H.HighSide.stands c.args.self.now.ends.now c.loop-made.self.ends.now c.stay-turn.new.self.ends.now c.args.self.now.process.now c.loop-made.self.process.now c.stay-turn.new.self.process.now x past was.so.row (was.so.past was.can.ready.up) was.takes s.7;
       over = λ lt. (ends.0 (omega (arith, lt, c.loop-made-test.true)), was.over c.loop-made-test.true);
       calm = ends.1;
       told = record {
         door = Grows-then _ _ _ _ _ t.door s.3;
         came = Draws-then _ _ _ _ _ t.came s.4;
-        links = (tells_at _ _ _ c.args.process.now c.loop-made.process x was.so.row s.5, t.links);
+        links = (tells_at _ _ _ c.args.self.now.process.now c.loop-made.self.process.now x was.so.row s.5, t.links);
         moments = Draws-then _ _ _ _ _ t.moments s.6;
       };
       made = omega (arith, was.made, s.2.looks);
       port = λ n h. c.stay-turn.ensures.port n (was.port n h);
       most = omega (arith, s.2.looks, s.2.bound, c.loop-made-test.true);
-      ready = c.stay-turn.ensures.ready (c.stay-turn.ensures.up (ap is_broken c.in_default.is));
-      order = c.stay-turn.ensures.order;
-      shape = c.stay-turn.ensures.shape ∙ was.shape;
-      place = c.stay-turn.ensures.place ∙ was.place;
-      counts = omega (arith, was.counts, c.stay-turn.ensures.counts);
+      can = can_again g.K.Clock.floor g.D.Disk.told g.H.HighSide.stands g.H.HighSide.shape g.H.HighSide.place c.loop-made.self c.stay-turn.new.self c.stay-turn.ensures.goes_on (c.stay-turn.ensures.up (ap is_broken c.in_default.is));
+      goes_on = goes_then g.K.Clock.floor g.D.Disk.told g.H.HighSide.stands g.H.HighSide.shape g.H.HighSide.place c.args.self.now c.loop-made.self c.stay-turn.new.self was.goes_on c.stay-turn.ensures.goes_on;
     }
 
 pub returns : goal.returns
@@ -88,11 +79,7 @@ returns g c = record {
       let t = was.told in
       (was.stays, was.so, (omega (arith, was.made, was.most, c.loop-made-test.false, c.from-most.ensures), was.calm), t.door, t.came, t.links, t.moments, was.takes);
   port = c.loop-made.invariant.port;
-  ready = λ _. c.loop-made.invariant.ready;
-  up = λ _. c.loop-made.invariant.ready.up;
-  order = c.loop-made.invariant.order;
-  shape = c.loop-made.invariant.shape;
-  place = c.loop-made.invariant.place;
-  counts = c.loop-made.invariant.counts;
+  goes_on = c.loop-made.invariant.goes_on;
+  up = λ _. c.loop-made.invariant.can.ready.up;
   device = tt;
 }

@@ -159,44 +159,6 @@ fn folder_in(matches: &ArgMatches) -> Option<(TableName, u32, u32, TableName)>
     Some((table, session, looks, folder))
 }
 
-fn drop_in(matches: &ArgMatches) -> Option<Command>
-    ensures sound { IfSome result IsCommand }
-    ensures all { (t u : List ℕ) (n k : ℕ) → is_table_name t ≡ true → n < 2 ^ 32 → 1 ≤ k → k < 2 ^ 32
-        → is_table_name u ≡ true
-        → first_of (codes "TABLE") (rows_of (found_of matches.now)) ≡ Some t
-        → first_of (codes "S") (rows_of (found_of matches.now)) ≡ Some (decimal n)
-        → first_of (codes "LOOKS") (rows_of (found_of matches.now)) ≡ Some (decimal k)
-        → first_of (codes "FOLDER") (rows_of (found_of matches.now)) ≡ Some u
-        → result ≡ Some (Command.DropFiles t n k u) }
-{
-    let (table, session, looks, folder) = folder_in(matches)?;
-    Some(Command::DropFiles {
-        table,
-        session,
-        looks,
-        folder,
-    })
-}
-
-fn collect_in(matches: &ArgMatches) -> Option<Command>
-    ensures sound { IfSome result IsCommand }
-    ensures all { (t u : List ℕ) (n k : ℕ) → is_table_name t ≡ true → n < 2 ^ 32 → 1 ≤ k → k < 2 ^ 32
-        → is_table_name u ≡ true
-        → first_of (codes "TABLE") (rows_of (found_of matches.now)) ≡ Some t
-        → first_of (codes "S") (rows_of (found_of matches.now)) ≡ Some (decimal n)
-        → first_of (codes "LOOKS") (rows_of (found_of matches.now)) ≡ Some (decimal k)
-        → first_of (codes "FOLDER") (rows_of (found_of matches.now)) ≡ Some u
-        → result ≡ Some (Command.CollectFiles t n k u) }
-{
-    let (table, session, looks, folder) = folder_in(matches)?;
-    Some(Command::CollectFiles {
-        table,
-        session,
-        looks,
-        folder,
-    })
-}
-
 fn migrate_in(matches: &ArgMatches) -> Option<Command>
     ensures sound { IfSome result IsCommand }
     ensures all { (t u : List ℕ) (n m : ℕ) → is_table_name t ≡ true → n < 2 ^ 32 → is_table_name u ≡ true → m < 2 ^ 32
@@ -250,8 +212,22 @@ pub(crate) fn with_values(name: &str, matches: &ArgMatches) -> Option<Command>
             session,
             looks,
         }),
-        "drop" => drop_in(matches),
-        "collect" => collect_in(matches),
+        "drop" => {
+            folder_in(matches).map(|(table, session, looks, folder)| Command::DropFiles {
+                table,
+                session,
+                looks,
+                folder,
+            })
+        }
+        "collect" => {
+            folder_in(matches).map(|(table, session, looks, folder)| Command::CollectFiles {
+                table,
+                session,
+                looks,
+                folder,
+            })
+        }
         "migrate" => migrate_in(matches),
         "wrap" => session_in(matches).map(|(table, session)| Command::Wrap { table, session }),
         "unwrap" => session_in(matches).map(|(table, session)| Command::Unwrap { table, session }),

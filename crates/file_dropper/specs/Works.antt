@@ -1,6 +1,6 @@
 -- What a dropper is at, and how it goes with what the folder tells.
 use Rattle.std.specs.Prelude.{◌≡◌, ◌⊎◌, ℕ, ◌+◌, ◌^◌, ◌<◌, ◌≤◌, true, false, if◌then◌else◌}
-use Rattle.std.specs.Prelude.{List, [], ◌∷◌, ◌++◌, length, Option, None, Some, Result, Ok, Err}
+use Rattle.std.specs.Prelude.{List, [], ◌∷◌, ◌++◌, length, Option, None, Some, Result, Ok, Err, OnOk}
 use Rattle.pump_frame.specs.Counts.{Rose}
 use Rattle.sha2.specs.Sha256.{sha256}
 use Rattle.file_messages.specs.FileNames.{IsFileName}
@@ -13,7 +13,7 @@ use Rattle.folders.specs.declared.mark.Stage.{Stage}
 use Rattle.folders.specs.declared.mark.Stage.TheVariants as stages
 use Rattle.file_cutter.specs.Cutting.{MayCut, cut_bytes, cut_message}
 use Rattle.file_dropper.specs.Readings.{HasRead, still}
-use Rattle.file_dropper.specs.Leaving.{cut_length, sending}
+use Rattle.file_dropper.specs.Leaving.{Fits, Leaves, cut_length, sending}
 use Rattle.file_dropper.specs.declared.work.Sent.{Sent}
 use Rattle.file_dropper.specs.declared.work.Sender.{Sender}
 use Rattle.file_dropper.specs.declared.work.Work.{Work}
@@ -239,6 +239,13 @@ pub record MaySettle {O F : Type 0} (m : Dropping O) (d : Dropper O F) : Type 0 
   pub greatest : d.message ≤ 1024
   pub not_awaited : d.awaited ≡ false
 
+-- .. and the marked file, which is this one, has messages that were not accepted
+pub record MayResume {O F : Type 0} (m : Dropping O) (d : Dropper O F) (file : Sent) : Type 0 where
+  pub may : MaySettle m d
+  pub sent : IsLawfulSent d.number file
+  pub short : d.number < file.start + cut_length d.message file.size
+  pub marked : m.tells → IsMarked (mark_of d.message file) (m.stands d.outbox).marked
+
 -- the marked file is this one, and a message of it may be given
 pub record MaySend {O F : Type 0} (m : Dropping O) (d : Dropper O F) (sent : Sent) : Type 0 where
   pub least : 138 ≤ d.message
@@ -272,6 +279,18 @@ IsUnchanged message (Sending sender) s accepted =
     × (sending message sender.sent.name sender.sent.size (bytes_of s.marked) ≡ part ++ rest)
 IsUnchanged message other s accepted = Unit {0}
 
+-- What a dropper leaves that settles what was left of a connection, where so many messages are accepted: a crash
+-- inside the call leaves what fits them, and a dropper that is settled stands behind them where the marked file is
+-- unchanged.
+abbrev pub SettlesBehind : {O F : Type 0} → Dropping O → (F → Option (List ℕ)) → ℕ → Dropper O F → Dropper O F
+    → Result Settled DropFault → Type 0
+SettlesBehind m left accepted old new result =
+    m.tells → (messages : List (List ℕ)) → accepted ≡ length messages → IsSettled m old.outbox
+    → Fits messages (m.stands old.outbox)
+    → Leaves m messages old.outbox new.outbox
+    × OnOk result (IsUnchanged new.message new.work (m.stands new.outbox) messages
+    → StandsBehind m left new messages)
+
 -- the dropper after its call, beside the answer
 abbrev pub LeavesNext : {O F : Type 0} → Dropping O → Dropper O F → Dropper O F → Result Next DropFault → Type 0
 LeavesNext m old new (Ok Idle) = MayAsk m new × (new.number ≡ old.number)
@@ -291,6 +310,14 @@ StandsNext m left new accepted given changed (Ok (Message number)) =
 StandsNext m left new accepted given changed (Ok (Again number start name)) =
     StandsBehind m left new (accepted ++ given ∷ []) × changed start name
 StandsNext m left new accepted given changed (Err fault) = Unit {0}
+
+-- What a dropper leaves that may have given a message: where it stood behind these messages at first, a crash inside
+-- the call leaves what fits them, and it stands behind the new one too.
+abbrev pub GivesBehind : {O F : Type 0} → Dropping O → (F → Option (List ℕ)) → Dropper O F → Dropper O F → List ℕ
+    → (ℕ → List ℕ → Type 0) → Result Next DropFault → Type 0
+GivesBehind m left first new given changed result =
+    m.tells → (messages : List (List ℕ)) → StandsBehind m left first messages
+    → Leaves m messages first.outbox new.outbox × StandsNext m left new messages given changed result
 
 -- a message that is given has at most so many bytes
 abbrev pub HasRoom : ℕ → List ℕ → Result Next DropFault → Type 0
@@ -348,6 +375,11 @@ GivesUpFor changed (Ok Ready) = Unit {0}
 GivesUpFor changed (Ok (WasSent sent)) = ⊥
 GivesUpFor changed (Ok (Renewed start name)) = changed start name
 GivesUpFor changed (Err fault) = Unit {0}
+
+-- .. this is the file, which has other bytes now
+abbrev pub GivesUpOther : {O F : Type 0} → Dropping O → Sent → Dropper O F → Result Settled DropFault → Type 0
+GivesUpOther m sent new result =
+    m.tells → GivesUpFor (IsToldOther sent (bytes_of (m.stands new.outbox).marked)) result
 
 -- no file is marked, and one is to be taken
 abbrev pub IsBetweenFiles : {F : Type 0} → Work F → Type 0

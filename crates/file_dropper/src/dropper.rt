@@ -1,10 +1,9 @@
 // Files go out of a folder, one after another.
 ghost use Rattle.std.specs.Prelude.{◌≡◌, ℕ, ◌^◌, ◌<◌, ◌≤◌, List, length, false, Ok, Some, IfErr, IfOk, OnOk, ◌+◌};
-ghost use Rattle.folders.specs.Outboxes.{Settled as IsSettled};
-ghost use Rattle.file_dropper.specs.Leaving.{Fits, Leaves};
+ghost use Rattle.file_dropper.specs.Leaving.{Leaves};
 ghost use Rattle.file_dropper.specs.Works.{HasFolderFault, IsNotSettled, GivesNothing, MayAsk, MayAnswer, LeavesNext};
-ghost use Rattle.file_dropper.specs.Works.{StandsBehind, StandsNext};
-ghost use Rattle.file_dropper.specs.Works.{HasOther, HasRoom, IsBetweenFiles, IsSettledFor, IsUnchanged, bytes_of};
+ghost use Rattle.file_dropper.specs.Works.{GivesBehind, SettlesBehind, StandsBehind};
+ghost use Rattle.file_dropper.specs.Works.{HasOther, HasRoom, IsBetweenFiles, IsSettledFor, bytes_of};
 ghost use Rattle.file_dropper.specs.Works.{ended_in};
 ghost use Rattle.file_dropper.specs.declared.answers.Next.TheVariants.{Idle};
 ghost use Rattle.file_dropper.specs.declared.work.Work.TheVariants.{Unsettled};
@@ -75,11 +74,7 @@ impl<O: Outbox> Dropper<O, O::File> {
         requires greatest { self.old.message ≤ 1024 }
         requires few { accepted ≤ 2 ^ 48 }
         ensures ask { OnOk result (MayAsk O.told self.new × (self.new.number ≡ accepted)) }
-        ensures behind { O.told.tells → (messages : List (List ℕ)) → accepted ≡ length messages
-            → IsSettled O.told self.old.outbox → Fits messages (O.told.stands self.old.outbox)
-            → Leaves O.told messages self.old.outbox self.new.outbox
-            × OnOk result (IsUnchanged self.new.message self.new.work (O.told.stands self.new.outbox) messages
-            → StandsBehind O.told O.File.left self.new messages) }
+        ensures behind { SettlesBehind O.told O.File.left accepted self.old self.new result }
         ensures answer { O.told.tells → IsSettledFor self.old.message (O.told.stands self.old.outbox).marked
             (bytes_of (O.told.stands self.new.outbox).marked) result }
         ensures message { self.new.message ≡ self.old.message }
@@ -105,9 +100,7 @@ impl<O: Outbox> Dropper<O, O::File> {
     pub fn next(&mut self, into: &mut Payload) -> Result<Next, DropFault>
         requires { MayAsk O.told self.old }
         ensures next { LeavesNext O.told self.old self.new result }
-        ensures behind { O.told.tells → (messages : List (List ℕ)) → StandsBehind O.told O.File.left self.old messages
-            → Leaves O.told messages self.old.outbox self.new.outbox
-            × StandsNext O.told O.File.left self.new messages into.new
+        ensures behind { GivesBehind O.told O.File.left self.old self.new into.new
             (HasOther self.old.work (bytes_of (O.told.stands self.old.outbox).marked)) result }
         ensures idle { result ≡ Ok Idle → IsBetweenFiles self.old.work }
         ensures room { HasRoom self.old.message into.new result }

@@ -5,7 +5,7 @@ ghost use Rattle.file_messages.specs.Files.{files};
 ghost use Rattle.folders.specs.Outboxes.{Settled as IsSettled};
 ghost use Rattle.file_dropper.specs.Leaving.{Fits, Leaves};
 ghost use Rattle.file_dropper.specs.Readings.{IsMeasure};
-ghost use Rattle.file_dropper.specs.Works.{HasFolderFault, MayAsk, LeavesNext, StandsBehind, StandsNext};
+ghost use Rattle.file_dropper.specs.Works.{GivesBehind, HasFolderFault, MayAsk, LeavesNext, StandsNext};
 ghost use Rattle.file_dropper.specs.Works.{HasOther, HasRoom, IsOther, IsToldOther, MaySend, SendsPart, bytes_of};
 ghost use Rattle.file_dropper.specs.declared.answers.Next.TheVariants.{Idle, Message};
 ghost use Rattle.file_dropper.specs.declared.work.Work.TheVariants.{Free, Sending};
@@ -47,10 +47,8 @@ impl<O: Outbox> Dropper<O, O::File> {
         requires may { MayAsk O.told (record self.old { work = Free None }) }
         requires few { self.old.number < 2 ^ 48 }
         ensures next { LeavesNext O.told self.old self.new result }
-        ensures behind { O.told.tells → (messages : List (List ℕ))
-            → StandsBehind O.told O.File.left (record self.old { work = Free None }) messages
-            → Leaves O.told messages self.old.outbox self.new.outbox
-            × StandsNext O.told O.File.left self.new messages into.new (λ start name. ⊥) result }
+        ensures behind { GivesBehind O.told O.File.left (record self.old { work = Free None }) self.new into.new
+            (λ start name. ⊥) result }
         ensures room { HasRoom self.old.message into.new result }
         ensures message { self.new.message ≡ self.old.message }
         ensures cause { IfErr result (HasFolderFault (O.told.count self.old.outbox) O.told O.File.faults self.new) }
@@ -75,10 +73,8 @@ impl<O: Outbox> Dropper<O, O::File> {
         requires may { MayAsk O.told (record self.old { work = Free (Some name.now) }) }
         requires few { self.old.number < 2 ^ 48 }
         ensures next { LeavesNext O.told self.old self.new result }
-        ensures behind { O.told.tells → (messages : List (List ℕ))
-            → StandsBehind O.told O.File.left (record self.old { work = Free (Some name.now) }) messages
-            → Leaves O.told messages self.old.outbox self.new.outbox
-            × StandsNext O.told O.File.left self.new messages into.new (λ start name. ⊥) result }
+        ensures behind { GivesBehind O.told O.File.left (record self.old { work = Free (Some name.now) })
+            self.new into.new (λ start name. ⊥) result }
         ensures begins { result ≡ Ok Idle → ⊥ }
         ensures room { HasRoom self.old.message into.new result }
         ensures message { self.new.message ≡ self.old.message }
@@ -101,10 +97,7 @@ impl<O: Outbox> Dropper<O, O::File> {
         requires may { MayAsk O.told (record self.old { work = Sending sender }) }
         requires few { self.old.number < 2 ^ 48 }
         ensures next { LeavesNext O.told self.old self.new result }
-        ensures behind { O.told.tells → (messages : List (List ℕ))
-            → StandsBehind O.told O.File.left (record self.old { work = Sending sender }) messages
-            → Leaves O.told messages self.old.outbox self.new.outbox
-            × StandsNext O.told O.File.left self.new messages into.new
+        ensures behind { GivesBehind O.told O.File.left (record self.old { work = Sending sender }) self.new into.new
             (HasOther (Sending sender) (bytes_of (O.told.stands self.old.outbox).marked)) result }
         ensures sends { result ≡ Ok Idle → ⊥ }
         ensures room { HasRoom self.old.message into.new result }
@@ -148,10 +141,7 @@ impl<O: Outbox> Dropper<O, O::File> {
         requires few { self.old.number < 2 ^ 48 }
         requires started { sender.started ≡ true }
         ensures next { LeavesNext O.told self.old self.new result }
-        ensures behind { O.told.tells → (messages : List (List ℕ))
-            → StandsBehind O.told O.File.left (record self.old { work = Sending sender }) messages
-            → Leaves O.told messages self.old.outbox self.new.outbox
-            × StandsNext O.told O.File.left self.new messages into.new
+        ensures behind { GivesBehind O.told O.File.left (record self.old { work = Sending sender }) self.new into.new
             (HasOther (Sending sender) (bytes_of (O.told.stands self.old.outbox).marked)) result }
         ensures sends { result ≡ Ok Idle → ⊥ }
         ensures room { HasRoom self.old.message into.new result }

@@ -1,13 +1,13 @@
 // What a dropper does at the beginning of a connection.
-ghost use Rattle.std.specs.Prelude.{◌≡◌, ℕ, ◌+◌, ◌^◌, ◌<◌, ◌≤◌, List, length, Some, IfErr, OnOk};
+ghost use Rattle.std.specs.Prelude.{◌≡◌, ℕ, ◌^◌, ◌<◌, ◌≤◌, List, length, Some, IfErr, OnOk};
 ghost use Rattle.folders.specs.Marks.{HasNumbers};
 ghost use Rattle.file_messages.specs.FileNames.{IsFileName};
 ghost use Rattle.file_messages.specs.Files.{files};
 ghost use Rattle.folders.specs.Outboxes.{Settled as IsSettled, HasName};
-ghost use Rattle.file_dropper.specs.Leaving.{Fits, Leaves, cut_length};
-ghost use Rattle.file_dropper.specs.Works.{HasFolderFault, IsMarked, IsNotSettledHere, IsLawfulSent, MayAsk};
-ghost use Rattle.file_dropper.specs.Works.{MaySettle};
-ghost use Rattle.file_dropper.specs.Works.{GivesUpFor, IsSettledFor, IsToldOf, IsToldOther, IsUnchanged, StandsBehind};
+ghost use Rattle.file_dropper.specs.Leaving.{Fits, Leaves};
+ghost use Rattle.file_dropper.specs.Works.{HasFolderFault, IsMarked, IsNotSettledHere, MayAsk, MayResume, MaySettle};
+ghost use Rattle.file_dropper.specs.Works.{GivesUpFor, GivesUpOther, IsSettledFor, IsToldOf, SettlesBehind};
+ghost use Rattle.file_dropper.specs.Works.{StandsBehind};
 ghost use Rattle.file_dropper.specs.Works.{bytes_of, mark_of};
 
 use crate::Dropper;
@@ -26,11 +26,7 @@ impl<O: Outbox> Dropper<O, O::File> {
         requires numbers { HasNumbers mark.now.stage }
         requires marked { O.told.tells → IsMarked mark.now (O.told.stands self.old.outbox).marked }
         ensures ask { OnOk result (MayAsk O.told self.new × (self.new.number ≡ self.old.number)) }
-        ensures behind { O.told.tells → (messages : List (List ℕ)) → self.old.number ≡ length messages
-            → IsSettled O.told self.old.outbox → Fits messages (O.told.stands self.old.outbox)
-            → Leaves O.told messages self.old.outbox self.new.outbox
-            × OnOk result (IsUnchanged self.new.message self.new.work (O.told.stands self.new.outbox) messages
-            → StandsBehind O.told O.File.left self.new messages) }
+        ensures behind { SettlesBehind O.told O.File.left self.old.number self.old self.new result }
         ensures answer { O.told.tells → IsSettledFor self.old.message (O.told.stands self.old.outbox).marked
             (bytes_of (O.told.stands self.new.outbox).marked) result }
         ensures message { self.new.message ≡ self.old.message }
@@ -63,11 +59,7 @@ impl<O: Outbox> Dropper<O, O::File> {
         requires name { IsFileName sent.now.name }
         requires marked { O.told.tells → IsMarked (mark_of message sent.now) (O.told.stands self.old.outbox).marked }
         ensures ask { OnOk result (MayAsk O.told self.new × (self.new.number ≡ self.old.number)) }
-        ensures behind { O.told.tells → (messages : List (List ℕ)) → self.old.number ≡ length messages
-            → IsSettled O.told self.old.outbox → Fits messages (O.told.stands self.old.outbox)
-            → Leaves O.told messages self.old.outbox self.new.outbox
-            × OnOk result (IsUnchanged self.new.message self.new.work (O.told.stands self.new.outbox) messages
-            → StandsBehind O.told O.File.left self.new messages) }
+        ensures behind { SettlesBehind O.told O.File.left self.old.number self.old self.new result }
         ensures answer { O.told.tells → IsSettledFor self.old.message (O.told.stands self.old.outbox).marked
             (bytes_of (O.told.stands self.new.outbox).marked) result }
         ensures message { self.new.message ≡ self.old.message }
@@ -99,19 +91,10 @@ impl<O: Outbox> Dropper<O, O::File> {
 
     // Goes on with the marked file where it is still that of its mark.
     fn resume(&mut self, sent: &Sent) -> Result<Settled, DropFault>
-        requires may { MaySettle O.told self.old }
-        requires sent { IsLawfulSent self.old.number sent.now }
-        requires short { self.old.number < sent.now.start + cut_length self.old.message sent.now.size }
-        requires marked { O.told.tells
-            → IsMarked (mark_of self.old.message sent.now) (O.told.stands self.old.outbox).marked }
+        requires { MayResume O.told self.old sent.now }
         ensures ask { OnOk result (MayAsk O.told self.new × (self.new.number ≡ self.old.number)) }
-        ensures behind { O.told.tells → (messages : List (List ℕ)) → self.old.number ≡ length messages
-            → IsSettled O.told self.old.outbox → Fits messages (O.told.stands self.old.outbox)
-            → Leaves O.told messages self.old.outbox self.new.outbox
-            × OnOk result (IsUnchanged self.new.message self.new.work (O.told.stands self.new.outbox) messages
-            → StandsBehind O.told O.File.left self.new messages) }
-        ensures answer { O.told.tells
-            → GivesUpFor (IsToldOther sent.now (bytes_of (O.told.stands self.new.outbox).marked)) result }
+        ensures behind { SettlesBehind O.told O.File.left self.old.number self.old self.new result }
+        ensures answer { GivesUpOther O.told sent.now self.new result }
         ensures message { self.new.message ≡ self.old.message }
         ensures cause { IfErr result (HasFolderFault (O.told.count self.old.outbox) O.told O.File.faults self.new) }
         ensures later { O.told.count self.old.outbox ≤ O.told.count self.new.outbox }
@@ -126,19 +109,10 @@ impl<O: Outbox> Dropper<O, O::File> {
 
     // Reads the marked file up to its next message.
     fn go_on(&mut self, sent: &Sent) -> Result<Settled, DropFault>
-        requires may { MaySettle O.told self.old }
-        requires sent { IsLawfulSent self.old.number sent.now }
-        requires short { self.old.number < sent.now.start + cut_length self.old.message sent.now.size }
-        requires marked { O.told.tells
-            → IsMarked (mark_of self.old.message sent.now) (O.told.stands self.old.outbox).marked }
+        requires { MayResume O.told self.old sent.now }
         ensures ask { OnOk result (MayAsk O.told self.new × (self.new.number ≡ self.old.number)) }
-        ensures behind { O.told.tells → (messages : List (List ℕ)) → self.old.number ≡ length messages
-            → IsSettled O.told self.old.outbox → Fits messages (O.told.stands self.old.outbox)
-            → Leaves O.told messages self.old.outbox self.new.outbox
-            × OnOk result (IsUnchanged self.new.message self.new.work (O.told.stands self.new.outbox) messages
-            → StandsBehind O.told O.File.left self.new messages) }
-        ensures answer { O.told.tells
-            → GivesUpFor (IsToldOther sent.now (bytes_of (O.told.stands self.new.outbox).marked)) result }
+        ensures behind { SettlesBehind O.told O.File.left self.old.number self.old self.new result }
+        ensures answer { GivesUpOther O.told sent.now self.new result }
         ensures message { self.new.message ≡ self.old.message }
         ensures cause { IfErr result (HasFolderFault (O.told.count self.old.outbox) O.told O.File.faults self.new) }
         ensures later { O.told.count self.old.outbox ≤ O.told.count self.new.outbox }

@@ -10,7 +10,7 @@ use Rattle.file_dropper.specs.declared.answers.Next.TheVariants.{Idle, Message, 
 use Rattle.file_dropper.specs.declared.dropper.Dropper.{Dropper}
 use Rattle.peers.specs.declared.asking.Wanted.{Wanted}
 use Rattle.peers.specs.declared.asking.Wanted.TheVariants as wanted
-use Rattle.peers.specs.Outputs.{Counts}
+use Rattle.peers.specs.Outputs.{Counts, counts}
 use Rattle.peers.specs.Sending.{Wait, data_frame}
 use Rattle.peers.proofs.Awaited.{rose_earlier}
 use Rattle.peers.proofs.Hearing.{over_earlier}
@@ -21,9 +21,6 @@ use Rattle.file_peers.specs.Delivering.{Part, Delivers, KeepsAnswered, MakesTurn
 use Rattle.file_peers.specs.Dropping.{Given, Turn, Acked, Rested, Stop, Resting, Giving, Telling, Asking, Taking, Ending, AskFails, LineEnds, RestEnds, StopsBy, IsGiven, GivesBehind, Passes, ended_line, given_line, given_number, dropper_in, message_in}
 
 -- ---- counts that rose since a later moment ----
-
-abbrev pub counts : ℕ → ℕ → ℕ → ℕ → Counts
-counts link now_link out now_out = record { link = link; now_link = now_link; out = out; now_out = now_out; other = 0; now_other = 0 }
 
 pub ask_earlier : (ask : Frame) (w : Wanted) (number left : ℕ) (wait : Wait) (sent : List ℕ) (a b now_link c d now_out : ℕ) (end : DropEnd) → a ≤ b → AskFails ask w number left wait sent (counts b now_link d now_out) end → AskFails ask w number left wait sent (counts a now_link c now_out) end
 ask_earlier ask w number left wait sent a b now_link c d now_out (Refused code of) le fails = fails

@@ -17,13 +17,13 @@ use Rattle.folders.specs.Outboxes.{Dropping, Settled as IsSettled}
 use Rattle.file_dropper.specs.Leaving.{Fits}
 use Rattle.file_dropper.specs.declared.dropper.Dropper.{Dropper}
 use Rattle.peers.specs.declared.asking.Wanted.TheVariants as wanted
-use Rattle.peers.specs.Outputs.{Counts}
+use Rattle.peers.specs.Outputs.{Counts, counts}
 use Rattle.peers.specs.Sending.{Answers, Wait, hello_frame, is_welcome}
 use Rattle.file_peers.specs.declared.drop.DropEnd.{DropEnd}
 use Rattle.file_peers.specs.declared.drop.DropEnd.TheVariants.{Ended, Looks, Write, Refused, Unfinished, Failed}
 use Rattle.file_peers.specs.Delivering.{SendsFiles, Settles}
 use Rattle.file_peers.specs.Dropping.{Turn, Stop, AreTurns, StopsBy, AskFails, Drops, KeepsFolder, Visit, Ungreeted, Unsettled, Untold, Greeted, all_looks, all_sent, all_printed, counted, dropper_behind, lines, looks_at, looks_of, messages, printed_at, reached, sendings, sent_at, settled_line}
-use Rattle.file_peers.proofs.Delivering.{counts, line_later, stops_earlier}
+use Rattle.file_peers.proofs.Delivering.{line_later, stops_earlier}
 
 -- ---- WELCOME's number ----
 

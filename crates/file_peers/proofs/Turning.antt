@@ -16,7 +16,7 @@ use Rattle.folders.specs.Placing.{Placing}
 use Rattle.file_collector.specs.Collecting.{HasTaken}
 use Rattle.file_collector.specs.declared.collector.Collector.{Collector}
 use Rattle.peers.specs.Looks.{Hears, HearsJust, IsOver}
-use Rattle.peers.specs.Outputs.{Counts, SendsPart, plain_frame}
+use Rattle.peers.specs.Outputs.{Counts, counts, SendsPart, plain_frame}
 use Rattle.peers.specs.Receiving.{is_wanted}
 use Rattle.peers.proofs.Hearing.{hears_none, just_join, over_earlier}
 use Rattle.file_peers.specs.declared.collect.CollectEnd.{CollectEnd}
@@ -211,10 +211,6 @@ module _ {I D : Type 0} (mi : Placing I) (md : Meaning D) (row : SessionRow) (st
           (passes_then mi md _ old now new (passes_more mi md before (f.payload ∷ []) old now was.turned.passes) fails.passes);
     },
   )
-
-  -- the counts of the call, after those of its last part
-  abbrev counts : ℕ → ℕ → ℕ → ℕ → Counts
-  counts link now_link out now_out = record { link = link; now_link = now_link; out = out; now_out = now_out; other = 0; now_other = 0 }
 
   pub frame_ends : (f : Frame) (x : Step) (a b now_link c d now_out : ℕ) (end : CollectEnd) → HearsJust looks (f ∷ []) → a ≤ b → c ≤ d
       → TakesFrame mi md row before f now new x (counts b now_link d now_out) (Some end) → Grows s1 s2 x.sent → Appends w1 w2 x.printed

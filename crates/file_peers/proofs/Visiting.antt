@@ -8,11 +8,11 @@ use Rattle.pump_link.proofs.Grown.{Draws-nil, Draws-then, Grows-nil, Grows-then}
 use Rattle.folders.specs.Outboxes.{Dropping}
 use Rattle.file_dropper.specs.Works.{StandsBehind}
 use Rattle.file_dropper.specs.declared.dropper.Dropper.{Dropper}
-use Rattle.peers.specs.Outputs.{Counts}
+use Rattle.peers.specs.Outputs.{Counts, counts}
 use Rattle.file_peers.specs.declared.drop.DropEnd.{DropEnd}
 use Rattle.file_peers.specs.Delivering.{Part, MakesTurn, SendsFiles}
 use Rattle.file_peers.specs.Dropping.{Turn, Stop, AreTurns, IsTurn, StopsBy, Passes, PassesBy, StopsBehind, dropper_in, message_in, looks_in, sent_in, line_in, reached, messages, looks_of, sendings, lines, looks_at, sent_at, printed_at}
-use Rattle.file_peers.proofs.Delivering.{counts, stands_after, stops_earlier}
+use Rattle.file_peers.proofs.Delivering.{stands_after, stops_earlier}
 
 -- ---- turns ----
 

@@ -8,7 +8,7 @@ ghost use Rattle.pump_frame.specs.Counts.{Rose};
 ghost use Rattle.pump_frame.specs.Frames.{IsLawful};
 ghost use Rattle.pump_link.specs.Tells.{Draws, Grows};
 ghost use Rattle.file_collector.specs.Collecting.{HasTaken, IsCollecting, taken_count};
-ghost use Rattle.peers.specs.Outputs.{PrintsPart};
+ghost use Rattle.peers.specs.Outputs.{PrintsPart, counts};
 ghost use Rattle.peers.specs.Receiving.{is_wanted};
 ghost use Rattle.file_peers.specs.Collecting.{Collection, Collects, KeepsCollector, has_failed, placed_line};
 ghost use Rattle.file_peers.specs.Taking.{Step, IsAnswered, TakesNext, TakesFrame, has_failed_in};
@@ -16,7 +16,7 @@ ghost use Rattle.file_peers.specs.Taking.{Step, IsAnswered, TakesNext, TakesFram
 use crate::lines::{Whole, print_dropped, print_file, print_odd};
 use file_collector::{Collector, PlaceFault, Placed};
 use folders::Inbox;
-use peers::{Waited, await_frame, plain_frame, send_frame};
+use peers::{Waited, await_frame, is_wanted, plain_frame, send_frame};
 use pump_frame::{Frame, Kind, SessionRow};
 use pump_link::{Link, Sink};
 
@@ -38,13 +38,6 @@ pub enum CollectEnd {
     Device { faults: u64 },
     /// A message came whose number is above the count of those taken.
     Ahead { number: u64, count: u64 },
-}
-
-fn is_wanted(row: &SessionRow, frame: &Frame) -> bool
-    ensures { result ≡ is_wanted row.now frame.now }
-{
-    matches!(frame.kind, Kind::Data)
-        && (frame.session == row.id && frame.payload.len() <= row.message)
 }
 
 /// Is it the message that gives a file up?
@@ -151,15 +144,7 @@ where
     ensures ready { has_failed_in result ≡ false → IsCollecting I.told I.Disk.told collector.new }
     ensures step { (before : List (List ℕ)) → HasTaken I.told I.Disk.told collector.old before → (x : Step)
         × TakesFrame I.told I.Disk.told row.now before frame.now collector.old collector.new x
-        (record {
-          link = C.faults link.old;
-          now_link = C.faults link.new;
-          out = O.faults out.old;
-          now_out = O.faults out.new;
-          other = 0;
-          now_other = 0;
-        })
-        result
+        (counts (C.faults link.old) (C.faults link.new) (O.faults out.old) (O.faults out.new)) result
         × Grows (C.sent link.old) (C.sent link.new) x.sent
         × Appends (O.written out.old) (O.written out.new) x.printed }
     ensures gives { Draws (C.gives link.old) (C.gives link.new) [] }
@@ -201,15 +186,7 @@ where
     ensures ready { has_failed result ≡ false → IsCollecting I.told I.Disk.told collector.new }
     ensures collects { (start : List (List ℕ)) → HasTaken I.told I.Disk.told collector.old start → (x : Collection)
         × Collects row.now looks start x
-        (record {
-          link = C.faults link.old;
-          now_link = C.faults link.new;
-          out = O.faults out.old;
-          now_out = O.faults out.new;
-          other = 0;
-          now_other = 0;
-        })
-        result
+        (counts (C.faults link.old) (C.faults link.new) (O.faults out.old) (O.faults out.new)) result
         × Draws (C.gives link.old) (C.gives link.new) (x.heard ++ x.looks)
         × Grows (C.sent link.old) (C.sent link.new) x.sent
         × Appends (O.written out.old) (O.written out.new) x.printed

@@ -8,7 +8,7 @@ ghost use Rattle.pump_link.specs.Tells.{Draws, Grows};
 ghost use Rattle.folders.specs.Outboxes.{Settled as IsSettled};
 ghost use Rattle.file_dropper.specs.Leaving.{Fits};
 ghost use Rattle.file_dropper.specs.Works.{MayAnswer, MayAsk, StandsBehind};
-ghost use Rattle.peers.specs.Outputs.{PrintsPart};
+ghost use Rattle.peers.specs.Outputs.{PrintsPart, counts};
 ghost use Rattle.file_peers.specs.Dropping.{Visit, Drops, KeepsFolder, all_looks, all_sent, all_printed, counted};
 ghost use Rattle.file_peers.specs.Dropping.{dropper_behind, ended_line, given_line, given_number, settled_line};
 ghost use Rattle.file_peers.specs.Delivering.{Part, Delivers, KeepsAnswered, MakesTurn, Settles, SendsFiles};
@@ -115,15 +115,7 @@ fn settle<O: Outbox, W: Sink>(
     ensures ask { result ≡ None → MayAsk O.told dropper.new × (dropper.new.number ≡ accepted) }
     ensures settles { (printed : List ℕ)
         × Settles O.told O.File.left O.File.faults session accepted dropper.old dropper.new printed
-        (record {
-          link = 0;
-          now_link = 0;
-          out = W.faults out.old;
-          now_out = W.faults out.new;
-          other = 0;
-          now_other = 0;
-        })
-        result
+        (counts 0 0 (W.faults out.old) (W.faults out.new)) result
         × Appends (W.written out.old) (W.written out.new) printed }
     ensures message { dropper.new.message ≡ dropper.old.message }
     ensures later { O.told.count dropper.old.outbox ≤ O.told.count dropper.new.outbox }
@@ -155,15 +147,7 @@ fn deliver<C: Link, O: Outbox, W: Sink>(
     ensures ask { result ≡ None → MayAsk O.told dropper.new × (dropper.new.number ≡ dropper.old.number + 1) }
     ensures delivers { (x : Part)
         × Delivers O.told O.File.faults frame.now dropper.old dropper.new left.new x
-        (record {
-          link = C.faults link.old;
-          now_link = C.faults link.new;
-          out = W.faults out.old;
-          now_out = W.faults out.new;
-          other = 0;
-          now_other = 0;
-        })
-        result
+        (counts (C.faults link.old) (C.faults link.new) (W.faults out.old) (W.faults out.new)) result
         × (left.old ≡ left.new + length x.looks)
         × Draws (C.gives link.old) (C.gives link.new) x.looks
         × Grows (C.sent link.old) (C.sent link.new) x.sent
@@ -211,15 +195,7 @@ fn take_turn<C: Link, O: Outbox, W: Sink>(
         → left.new + (2 ^ 48 - dropper.new.number) < left.old + (2 ^ 48 - dropper.old.number) }
     ensures turn { (x : Part)
         × MakesTurn O.told O.File.left O.File.faults frame.old.session dropper.old dropper.new left.new x
-        (record {
-          link = C.faults link.old;
-          now_link = C.faults link.new;
-          out = W.faults out.old;
-          now_out = W.faults out.new;
-          other = 0;
-          now_other = 0;
-        })
-        result
+        (counts (C.faults link.old) (C.faults link.new) (W.faults out.old) (W.faults out.new)) result
         × (left.old ≡ left.new + length x.looks)
         × Draws (C.gives link.old) (C.gives link.new) x.looks
         × Grows (C.sent link.old) (C.sent link.new) x.sent
@@ -257,15 +233,8 @@ fn send_files<C: Link, O: Outbox, W: Sink>(
 ) -> DropEnd
     requires { MayAsk O.told dropper.old }
     ensures sends { SendsFiles O.told O.File.left O.File.faults session left.old left.new dropper.old dropper.new
-        (record {
-          link = C.faults link.old;
-          now_link = C.faults link.new;
-          out = W.faults out.old;
-          now_out = W.faults out.new;
-          other = 0;
-          now_other = 0;
-        })
-        result (Draws (C.gives link.old) (C.gives link.new)) (Grows (C.sent link.old) (C.sent link.new))
+        (counts (C.faults link.old) (C.faults link.new) (W.faults out.old) (W.faults out.new)) result
+        (Draws (C.gives link.old) (C.gives link.new)) (Grows (C.sent link.old) (C.sent link.new))
         (Appends (W.written out.old) (W.written out.new)) }
     ensures message { dropper.new.message ≡ dropper.old.message }
     ensures later { O.told.count dropper.old.outbox ≤ O.told.count dropper.new.outbox }
@@ -302,15 +271,7 @@ pub fn drop_with<C: Link, O: Outbox, W: Sink>(
     requires row { dropper.old.message ≡ row.now.message }
     ensures drops { (x : Visit O O.File) × (left : ℕ)
         × Drops O.told O.File.faults row.now left dropper.old x
-        (record {
-          link = C.faults link.old;
-          now_link = C.faults link.new;
-          out = W.faults out.old;
-          now_out = W.faults out.new;
-          other = 0;
-          now_other = 0;
-        })
-        result
+        (counts (C.faults link.old) (C.faults link.new) (W.faults out.old) (W.faults out.new)) result
         × (looks ≡ left + length (all_looks x))
         × Draws (C.gives link.old) (C.gives link.new) (all_looks x)
         × Grows (C.sent link.old) (C.sent link.new) (all_sent row.now x)

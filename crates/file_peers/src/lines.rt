@@ -9,8 +9,7 @@ ghost use Rattle.file_peers.specs.Lines.{cause_word, file_line, dropped_line, od
 
 use arrayvec::ArrayVec;
 use file_messages::{Cause, FileName};
-use itoa::Buffer;
-use peers::print;
+use peers::{print, put_number};
 use pump_link::Sink;
 
 /// How many bytes of room a line has.
@@ -32,18 +31,6 @@ fn put_text(into: &mut ArrayVec<u8, ROOM>, text: &[u8])
 {
     into.try_extend_from_slice(b" ").unwrap();
     into.try_extend_from_slice(text).unwrap();
-}
-
-// .. a number
-fn put_number(into: &mut ArrayVec<u8, ROOM>, number: u64)
-    requires { array_vec_len into.old + 21 ≤ 320 }
-    ensures items { into.new.items ≡ into.old.items ++ 32 ∷ decimal number }
-    ensures len { array_vec_len into.new ≤ array_vec_len into.old + 21 }
-{
-    let mut digits = Buffer::new();
-    into.try_extend_from_slice(b" ").unwrap();
-    into.try_extend_from_slice(digits.format(number).as_bytes())
-        .unwrap();
 }
 
 // .. a digest

@@ -1,16 +1,11 @@
 //! The folders below the current one, by their names.
 
-ghost use Rattle.std.specs.Prelude.{◌≡◌, ◌≤◌};
-ghost use Rattle.pump_frame.specs.Counts.{raised};
-
 use crate::file_inbox::FileInbox;
 use crate::file_outbox::FileOutbox;
 use crate::folder_notes::FolderNotes;
 use folders::{Folders, FoldersFault};
-use pump_frame::raised;
 use std::alloc::Alloc;
 use std::fs::{File, Files};
-use std::io;
 use std::time::Clock;
 
 /// The folders below the current one, by their names. They tell how often one was not given, and nothing
@@ -33,15 +28,6 @@ impl<'a, R> FileFolders<'a, R> {
             faults: 0,
         }
     }
-
-    fn fault(&mut self, error: &io::Error) -> FoldersFault
-        ensures raised { self.new.faults ≡ raised self.old.faults }
-        ensures later { self.old.faults ≤ self.new.faults }
-    {
-        self.faults = raised(self.faults);
-        self.notes.note_fault(error);
-        FoldersFault
-    }
 }
 
 impl<'a, R: Files<File = File> + Alloc + Clock> Folders for FileFolders<'a, R> {
@@ -57,14 +43,14 @@ impl<'a, R: Files<File = File> + Alloc + Clock> Folders for FileFolders<'a, R> {
     fn inbox(&mut self, name: &str, session: u32) -> Result<FileInbox<'a, R>, FoldersFault> {
         match FileInbox::open(self.files, self.notes, name, session) {
             Ok(inbox) => Ok(inbox),
-            Err(error) => Err(self.fault(&error)),
+            Err(error) => Err(self.notes.fault(&mut self.faults, &error, FoldersFault)),
         }
     }
 
     fn outbox(&mut self, name: &str, session: u32) -> Result<FileOutbox<'a, R>, FoldersFault> {
         match FileOutbox::open(self.files, self.notes, name, session) {
             Ok(outbox) => Ok(outbox),
-            Err(error) => Err(self.fault(&error)),
+            Err(error) => Err(self.notes.fault(&mut self.faults, &error, FoldersFault)),
         }
     }
 

@@ -1,7 +1,6 @@
 //! A folder of the machine that files come into.
 
-ghost use Rattle.std.specs.Prelude.{◌≡◌, ◌≤◌, IfOk};
-ghost use Rattle.pump_frame.specs.Counts.{raised};
+ghost use Rattle.std.specs.Prelude.{◌≡◌, IfOk};
 ghost use Rattle.folder_adapters.specs.Folders.{inbox_counts_alone};
 
 use crate::folder::Folder;
@@ -10,7 +9,6 @@ use adapters::FolderDisk;
 use arrayvec::ArrayString;
 use file_messages::Progress;
 use folders::{Inbox, InboxFault};
-use pump_frame::raised;
 use std::fmt::Write;
 use std::fs::{File, Files};
 use std::io::{self, ErrorKind};
@@ -36,17 +34,6 @@ fn hidden_name(session: u32, ending: &str) -> ArrayString<17> {
     let mut name = ArrayString::new();
     let _ = write!(name, ".{session}{ending}");
     name
-}
-
-impl<'a, R> FileInbox<'a, R> {
-    fn fault(&mut self, error: &io::Error) -> InboxFault
-        ensures raised { self.new.faults ≡ raised self.old.faults }
-        ensures later { self.old.faults ≤ self.new.faults }
-    {
-        self.faults = raised(self.faults);
-        self.notes.note_fault(error);
-        InboxFault
-    }
 }
 
 impl<'a, R: Files<File = File>> FileInbox<'a, R> {
@@ -133,14 +120,14 @@ impl<'a, R: Files<File = File>> Inbox for FileInbox<'a, R> {
     fn register(&mut self) -> Result<FolderDisk<'a>, InboxFault> {
         match self.open_register() {
             Ok(file) => Ok(FolderDisk::new(file, self.notes.why_of_files())),
-            Err(error) => Err(self.fault(&error)),
+            Err(error) => Err(self.notes.fault(&mut self.faults, &error, InboxFault)),
         }
     }
 
     fn begin(&mut self) -> Result<FolderDisk<'a>, InboxFault> {
         match self.begin_part() {
             Ok(file) => Ok(FolderDisk::new(file, self.notes.why_of_files())),
-            Err(error) => Err(self.fault(&error)),
+            Err(error) => Err(self.notes.fault(&mut self.faults, &error, InboxFault)),
         }
     }
 
@@ -148,21 +135,21 @@ impl<'a, R: Files<File = File>> Inbox for FileInbox<'a, R> {
         match self.resume_part(count) {
             Ok(Some(file)) => Ok(Some(FolderDisk::new(file, self.notes.why_of_files()))),
             Ok(None) => Ok(None),
-            Err(error) => Err(self.fault(&error)),
+            Err(error) => Err(self.notes.fault(&mut self.faults, &error, InboxFault)),
         }
     }
 
     fn is_free(&mut self, name: &str) -> Result<bool, InboxFault> {
         match self.folder.metadata(self.files, name) {
             Ok(found) => Ok(found.is_none()),
-            Err(error) => Err(self.fault(&error)),
+            Err(error) => Err(self.notes.fault(&mut self.faults, &error, InboxFault)),
         }
     }
 
     fn publish(&mut self, _part: FolderDisk<'a>, name: &str) -> Result<(), InboxFault> {
         match self.show(name) {
             Ok(()) => Ok(()),
-            Err(error) => Err(self.fault(&error)),
+            Err(error) => Err(self.notes.fault(&mut self.faults, &error, InboxFault)),
         }
     }
 

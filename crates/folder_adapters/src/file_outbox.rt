@@ -1,7 +1,6 @@
 //! A folder of the machine that files go out of.
 
-ghost use Rattle.std.specs.Prelude.{◌≡◌, ◌≤◌, IfOk, IfSome};
-ghost use Rattle.pump_frame.specs.Counts.{raised};
+ghost use Rattle.std.specs.Prelude.{◌≡◌, IfOk, IfSome};
 ghost use Rattle.folders.specs.Marks.{HasNumbers};
 ghost use Rattle.folders.specs.Outboxes.{IsLawfulFound};
 ghost use Rattle.folder_adapters.specs.Folders.{outbox_counts_alone};
@@ -13,7 +12,6 @@ use adapters::StdSource;
 use arrayvec::ArrayString;
 use file_messages::{FileName, Progress};
 use folders::{Found, Mark, Outbox, OutboxFault, Stage};
-use pump_frame::raised;
 use std::alloc::{Alloc, Allocator};
 use std::fs::{DirEntry, File, Files};
 use std::io::{self, ErrorKind};
@@ -73,17 +71,6 @@ fn find_marked<R: Files<File = File> + Alloc>(
         }
     }
     Ok(found)
-}
-
-impl<'a, R: Alloc> FileOutbox<'a, R> {
-    fn fault(&mut self, error: &io::Error) -> OutboxFault
-        ensures raised { self.new.faults ≡ raised self.old.faults }
-        ensures later { self.old.faults ≤ self.new.faults }
-    {
-        self.faults = raised(self.faults);
-        self.notes.note_fault(error);
-        OutboxFault
-    }
 }
 
 impl<'a, R: Files<File = File> + Alloc + Clock> FileOutbox<'a, R> {
@@ -214,42 +201,42 @@ impl<'a, R: Files<File = File> + Alloc + Clock> Outbox for FileOutbox<'a, R> {
                 };
                 Ok(found)
             }
-            Err(error) => Err(self.fault(&error)),
+            Err(error) => Err(self.notes.fault(&mut self.faults, &error, OutboxFault)),
         }
     }
 
     fn next(&mut self) -> Result<Option<FileName>, OutboxFault> {
         match self.next_file() {
             Ok(next) => Ok(next),
-            Err(error) => Err(self.fault(&error)),
+            Err(error) => Err(self.notes.fault(&mut self.faults, &error, OutboxFault)),
         }
     }
 
     fn take(&mut self, name: &FileName) -> Result<bool, OutboxFault> {
         match self.take_file(name) {
             Ok(is_taken) => Ok(is_taken),
-            Err(error) => Err(self.fault(&error)),
+            Err(error) => Err(self.notes.fault(&mut self.faults, &error, OutboxFault)),
         }
     }
 
     fn mark(&mut self, mark: &Mark) -> Result<(), OutboxFault> {
         match self.mark_file(mark) {
             Ok(()) => Ok(()),
-            Err(error) => Err(self.fault(&error)),
+            Err(error) => Err(self.notes.fault(&mut self.faults, &error, OutboxFault)),
         }
     }
 
     fn open(&mut self) -> Result<StdSource<File>, OutboxFault> {
         match self.open_file() {
             Ok(file) => Ok(StdSource::new(file)),
-            Err(error) => Err(self.fault(&error)),
+            Err(error) => Err(self.notes.fault(&mut self.faults, &error, OutboxFault)),
         }
     }
 
     fn remove(&mut self) -> Result<(), OutboxFault> {
         match self.remove_file() {
             Ok(()) => Ok(()),
-            Err(error) => Err(self.fault(&error)),
+            Err(error) => Err(self.notes.fault(&mut self.faults, &error, OutboxFault)),
         }
     }
 

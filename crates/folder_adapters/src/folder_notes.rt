@@ -1,7 +1,11 @@
 //! What is noted of a folder while a command works in it.
 
+ghost use Rattle.std.specs.Prelude.{◌≡◌, ◌≤◌};
+ghost use Rattle.pump_frame.specs.Counts.{raised};
+
 use crate::progress_line::ProgressLine;
 use file_messages::Progress;
+use pump_frame::raised;
 use std::cell::Cell;
 use std::io::{self, ErrorKind};
 
@@ -54,8 +58,15 @@ impl FolderNotes {
         &self.why
     }
 
-    pub(crate) fn note_fault(&self, error: &io::Error) {
+    // A call failed. It is counted, why it failed is noted, and the fault that tells of it is handed back.
+    pub(crate) fn fault<F>(&self, faults: &mut u64, error: &io::Error, fault: F) -> F
+        ensures raised { faults.new ≡ raised faults.old }
+        ensures later { faults.old ≤ faults.new }
+        ensures value { result ≡ fault }
+    {
+        *faults = raised(*faults);
         self.why.set(Some(error.kind()));
+        fault
     }
 
     pub(crate) fn note_lying(&self, count: u64) {

@@ -14,7 +14,7 @@ use Rattle.peers.specs.declared.asking.Wanted.{Wanted}
 use Rattle.peers.specs.declared.asking.Wanted.TheVariants as wanted
 use Rattle.peers.specs.declared.send.SendEnd.{SendEnd}
 use Rattle.peers.specs.declared.send.SendEnd.TheVariants.{Done, Read, Write, Script, Refused, Unfinished}
-use Rattle.peers.specs.Outputs.{Counts}
+use Rattle.peers.specs.Outputs.{Counts, all_counts}
 use Rattle.peers.specs.Payloads.{IsPayload, IsFaulty, TakesAtMost}
 use Rattle.peers.specs.Replies.{Sends as SendsMessage}
 use Rattle.peers.specs.Sending.{Turn, Skipped, Acked, Wait, Last, Answers, IsUnanswered, IsUnfinished, AskEnds, MessageEnds, LineEnds, EndsBy, AreTurns, data_frame, ack_line, lines, looks_of, sendings, printings, hello_frame, Sending, Ungreeted, Greeted, Sends, all_looks, all_sent, all_printed}
@@ -22,9 +22,6 @@ use Rattle.peers.proofs.Awaited.{rose_earlier}
 use Rattle.peers.proofs.Hearing.{over_earlier}
 
 -- ---- counts that rose since a later moment ----
-
-abbrev pub counts : ℕ → ℕ → ℕ → ℕ → ℕ → ℕ → Counts
-counts link now_link out now_out other now_other = record { link = link; now_link = now_link; out = out; now_out = now_out; other = other; now_other = now_other }
 
 unanswered_earlier : (session : ℕ) (w : Wanted) (wait : Wait) (left a b now : ℕ) → a ≤ b → IsUnanswered session w wait left b now → IsUnanswered session w wait left a now
 unanswered_earlier session w wait left a b now le u = record {
@@ -39,7 +36,7 @@ pub unfinished_earlier : (session : ℕ) (ask : Frame) (w : Wanted) (wait : Wait
 unfinished_earlier session ask w wait left sent a b now le (inl (none, prefix, rose)) = inl (none, prefix, rose_earlier a b now le rose)
 unfinished_earlier session ask w wait left sent a b now le (inr (u, whole)) = inr (unanswered_earlier session w wait left a b now le u, whole)
 
-pub message_earlier : (f : Frame) (last : Last) (a b now_link c d now_out x y z w : ℕ) (end : SendEnd) → a ≤ b → c ≤ d → MessageEnds f last (counts b now_link d now_out x y) end → MessageEnds f last (counts a now_link c now_out z w) end
+pub message_earlier : (f : Frame) (last : Last) (a b now_link c d now_out x y z w : ℕ) (end : SendEnd) → a ≤ b → c ≤ d → MessageEnds f last (all_counts b now_link d now_out x y) end → MessageEnds f last (all_counts a now_link c now_out z w) end
 message_earlier f last a b now_link c d now_out x y z w Write low out_low (ack, answer, sent, prefix, rose) = (ack, answer, sent, prefix, rose_earlier c d now_out out_low rose)
 message_earlier f last a b now_link c d now_out x y z w (Refused code of) low out_low ends = ends
 message_earlier f last a b now_link c d now_out x y z w (Unfinished of) low out_low (u, none, is) = (unfinished_earlier f.session f (wanted.Ack f.number) last.wait last.left last.sent a b now_link low u, none, is)
@@ -48,7 +45,7 @@ message_earlier f last a b now_link c d now_out x y z w Read low out_low ends = 
 message_earlier f last a b now_link c d now_out x y z w (Script line) low out_low ends = absurd ends
 
 pub line_earlier : (session first number : ℕ) (rest : Option (List ℕ)) (last : Last) (a b now_link c now_out x y : ℕ) (end : SendEnd) → a ≤ b
-    → EndsBy session first number rest last (counts b now_link c now_out x y) end → EndsBy session first number rest last (counts a now_link c now_out x y) end
+    → EndsBy session first number rest last (all_counts b now_link c now_out x y) end → EndsBy session first number rest last (all_counts a now_link c now_out x y) end
 line_earlier session first number rest last a b now_link c now_out x y Done low ends = ends
 line_earlier session first number rest last a b now_link c now_out x y Read low ends = ends
 line_earlier session first number rest last a b now_link c now_out x y (Script line) low ends = ends
@@ -223,8 +220,8 @@ ungreeted row most g g1 s s1 all w hello n end last is ends none used gave sends
 
 pub greeted : (row : SessionRow) (most mid : ℕ) (g g1 g2 : List Looked → Type 0) (s s1 s2 : List ℕ → Type 0) (all to w w' : Option (List ℕ)) (hello welcome : Frame) (wait : Wait) (first : ℕ) (sent : List ℕ)
     (a b now_link out now_out other now_other : ℕ) (end : SendEnd) → hello ≡ hello_frame row → Answers hello.session wanted.Welcome wait welcome → first ≡ welcome.number → sent ≡ spelling hello
-    → most ≡ mid + length wait.looks → Draws g g1 wait.looks → Grows s s1 sent → a ≤ b → Told row.id first mid g1 g2 s1 s2 all to w w' (counts b now_link out now_out other now_other) end
-    → Sent row most g g2 s s2 all to w w' (counts a now_link out now_out other now_other) end
+    → most ≡ mid + length wait.looks → Draws g g1 wait.looks → Grows s s1 sent → a ≤ b → Told row.id first mid g1 g2 s1 s2 all to w w' (all_counts b now_link out now_out other now_other) end
+    → Sent row most g g2 s s2 all to w w' (all_counts a now_link out now_out other now_other) end
 greeted row most mid g g1 g2 s s1 s2 all to w w' hello welcome wait first sent a b now_link out now_out other now_other end is answers first_is sent_is used gave sends low (turns, last, rest, are, few, more_used, read, ahead, ends, more_gave, more_sends, prints) = (
   Greeted wait welcome turns last,
   (
@@ -235,7 +232,7 @@ greeted row most mid g g1 g2 s s1 s2 all to w w' hello welcome wait first sent a
     rest,
     read,
     ahead,
-    subst (λ k. EndsBy row.id k (length turns) rest last (counts a now_link out now_out other now_other) end) first_is (line_earlier row.id first (length turns) rest last a b now_link out now_out other now_other end low ends),
+    subst (λ k. EndsBy row.id k (length turns) rest last (all_counts a now_link out now_out other now_other) end) first_is (line_earlier row.id first (length turns) rest last a b now_link out now_out other now_other end low ends),
   ),
   Draws-then g g1 g2 wait.looks (looks_of turns ++ last.wait.looks) gave more_gave,
   Grows-then s s1 s2 (spelling (hello_frame row)) (sendings row.id turns ++ last.sent) (subst (Grows s s1) (sent_is ∙ ap spelling is) sends) more_sends,

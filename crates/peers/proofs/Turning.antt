@@ -16,7 +16,7 @@ use Rattle.high_receiver.specs.Receiving.{IsRecvReady, recv_disk, recv_count, re
 use Rattle.peers.specs.declared.receive.ReceiveEnd.{ReceiveEnd}
 use Rattle.peers.specs.declared.receive.ReceiveEnd.TheVariants.{Ended, Looks, Write, Device, Ahead, LogFull}
 use Rattle.peers.specs.Looks.{Hears, HearsJust, IsOver}
-use Rattle.peers.specs.Outputs.{Counts, SendsPart, plain_frame}
+use Rattle.peers.specs.Outputs.{Counts, all_counts, SendsPart, plain_frame}
 use Rattle.peers.specs.Receiving.{Turn, Place, IsTurn, AreTurns, place_of, place_by, place_after, frame_in, frames, messages, message_in, answer_in, line_in, lines, sendings, is_wanted, IsNext, Refuses, Reception, Receives, EndsBy, KeepsReceiver, attempted, is_device}
 use Rattle.peers.specs.Takes.{Step, TakesFrame, MakesTurn, GrowsBy, GrowsPart}
 use Rattle.peers.proofs.Hearing.{hears_none, just_join, over_earlier}
@@ -214,7 +214,7 @@ module _ {D : Type 0} (m : Meaning D) (row : SessionRow) (most left left' : ℕ)
 
   -- the counts of the call, after those of its last part
   abbrev counts : ℕ → ℕ → ℕ → ℕ → Receiver D → Counts
-  counts link now_link out now_out from = record { link = link; now_link = now_link; out = out; now_out = now_out; other = m.count (recv_disk from); now_other = m.count (recv_disk new) }
+  counts link now_link out now_out from = all_counts link now_link out now_out (m.count (recv_disk from)) (m.count (recv_disk new))
 
   pub frame_ends : (f : Frame) (x : Step) (a b now_link c d now_out : ℕ) (end : ReceiveEnd) → IsRecvReady m old → HearsJust looks (f ∷ []) → a ≤ b → c ≤ d
       → TakesFrame m row f now new x (counts b now_link d now_out now) (Some end) → Grows s1 s2 x.sent → Appends w1 w2 x.printed

@@ -32,3 +32,18 @@ pub record Counts : Type 0 where
   pub now_out : ℕ
   pub other : ℕ
   pub now_other : ℕ
+
+-- .. of a link, a sink and one thing more, each before the call and after it
+abbrev pub all_counts : ℕ → ℕ → ℕ → ℕ → ℕ → ℕ → Counts
+all_counts link now_link out now_out other now_other = record {
+  link = link;
+  now_link = now_link;
+  out = out;
+  now_out = now_out;
+  other = other;
+  now_other = now_other;
+}
+
+-- .. of a link and a sink alone
+abbrev pub counts : ℕ → ℕ → ℕ → ℕ → Counts
+counts link now_link out now_out = all_counts link now_link out now_out 0 0

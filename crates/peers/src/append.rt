@@ -1,8 +1,6 @@
 // Low's sender of a stream, which connects again where a connection breaks.
-ghost use Rattle.std.specs.Prelude.{◌≡◌, ℕ, ◌+◌, ◌-◌, ◌^◌, ◌<◌, ◌≤◌, List, [], ◌∷◌, ◌++◌, decimal, Option, Some, true};
-ghost use Rattle.std.specs.Prelude.{false};
+ghost use Rattle.std.specs.Prelude.{◌≡◌, ℕ, ◌+◌, ◌-◌, ◌^◌, ◌<◌, ◌≤◌, List, [], ◌++◌, Option, Some, true, false};
 ghost use Rattle.std.specs.Io.KnownBytes.{Appends, Consumes};
-ghost use Rattle.arrayvec.specs.ArrayVec.{array_vec_len};
 ghost use Rattle.pump_frame.specs.Counts.{Rose};
 ghost use Rattle.pump_frame.specs.declared.frame.Kind.TheVariants.{Data};
 ghost use Rattle.pump_link.specs.Tells.{Draws, Grows};
@@ -15,11 +13,10 @@ ghost use Rattle.peers.specs.Payloads.{TakesAtMost};
 ghost use Rattle.peers.specs.Sending.{ack_line};
 
 use crate::asking::{Reply, Wanted, ask};
-use crate::outputs::print;
+use crate::outputs::{print, put_number};
 use crate::payload_lines::{Lined, PayloadLines};
 use crate::send::print_ack;
 use arrayvec::ArrayVec;
-use itoa::Buffer;
 use pump_frame::{Frame, Kind, Payload, SessionRow};
 use pump_link::{Link, Ports, Sink, Source};
 
@@ -53,18 +50,6 @@ pub struct Appended {
     pub lines: u32,
     /// The number of the message of the line behind those. It is 0 where no WELCOME came.
     pub next: u64,
-}
-
-// Puts a space and a number behind what is there.
-fn put_number(into: &mut ArrayVec<u8, 96>, number: u64)
-    requires { array_vec_len into.old + 21 ≤ 96 }
-    ensures items { into.new.items ≡ into.old.items ++ 32 ∷ decimal number }
-    ensures len { array_vec_len into.new ≤ array_vec_len into.old + 21 }
-{
-    let mut digits = Buffer::new();
-    into.try_extend_from_slice(b" ").unwrap();
-    into.try_extend_from_slice(digits.format(number).as_bytes())
-        .unwrap();
 }
 
 fn put_appended(into: &mut ArrayVec<u8, 96>, session: u32, appended: &Appended)

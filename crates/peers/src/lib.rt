@@ -18,6 +18,6 @@ pub use append::{AppendEnd, Appended, append_with, print_appended};
 pub use asking::{Reply, Wanted, ask};
 pub use laws::{receptions_are_one, sendings_are_one};
 pub use looks::{Waited, await_frame};
-pub use outputs::{plain_frame, print, send_frame};
-pub use receive::{ReceiveEnd, receive_with};
+pub use outputs::{plain_frame, print, put_number, send_frame};
+pub use receive::{ReceiveEnd, is_wanted, receive_with};
 pub use send::{SendEnd, send_with};

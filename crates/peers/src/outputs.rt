@@ -1,5 +1,6 @@
-// Sending a frame, and printing a line.
-ghost use Rattle.std.specs.Prelude.{◌≡◌, ◌≤◌, false, []};
+// Sending a frame, and printing a line or a number of one.
+ghost use Rattle.std.specs.Prelude.{◌≡◌, ◌+◌, ◌≤◌, false, [], ◌∷◌, ◌++◌, decimal};
+ghost use Rattle.arrayvec.specs.ArrayVec.{array_vec_len};
 ghost use Rattle.pump_frame.specs.Counts.{Rose};
 ghost use Rattle.pump_frame.specs.Frames.{IsLawful};
 ghost use Rattle.pump_frame.specs.Spellings.{spelling};
@@ -7,6 +8,7 @@ ghost use Rattle.pump_link.specs.Tells.{Draws};
 ghost use Rattle.peers.specs.Outputs.{SendsPart, PrintsPart, plain_frame};
 
 use arrayvec::ArrayVec;
+use itoa::Buffer;
 use pump_frame::{Frame, Kind, Payload, encode};
 use pump_link::{Link, Sink, write_all};
 
@@ -34,6 +36,18 @@ pub fn send_frame<C: Link>(link: &mut C, frame: &Frame) -> bool
     let mut bytes = ArrayVec::new();
     encode(frame, &mut bytes);
     link.send(bytes.as_slice()).is_ok()
+}
+
+/// Puts a space and a number behind what is there.
+pub fn put_number<const N: usize>(into: &mut ArrayVec<u8, N>, number: u64)
+    requires { array_vec_len into.old + 21 ≤ N }
+    ensures items { into.new.items ≡ into.old.items ++ 32 ∷ decimal number }
+    ensures len { array_vec_len into.new ≤ array_vec_len into.old + 21 }
+{
+    let mut digits = Buffer::new();
+    into.try_extend_from_slice(b" ").unwrap();
+    into.try_extend_from_slice(digits.format(number).as_bytes())
+        .unwrap();
 }
 
 /// Prints a line, and says whether it was written whole; a prefix of it was written where not, which comes

@@ -5,7 +5,7 @@ ghost use Rattle.pump_frame.specs.Counts.{Rose};
 ghost use Rattle.pump_frame.specs.Frames.{IsLawful};
 ghost use Rattle.pump_link.specs.Tells.{Draws, Grows};
 ghost use Rattle.high_receiver.specs.Receiving.{IsRecvReady, recv_disk, recv_row, recv_size};
-ghost use Rattle.peers.specs.Outputs.{PrintsPart};
+ghost use Rattle.peers.specs.Outputs.{PrintsPart, all_counts};
 ghost use Rattle.peers.specs.Receiving.{is_wanted, place_of, taken_line, Reception, Receives, KeepsReceiver};
 ghost use Rattle.peers.specs.Takes.{Step, TakesFrame};
 
@@ -36,7 +36,8 @@ pub enum ReceiveEnd {
     LogFull { end: u64, length: u32, size: u64 },
 }
 
-fn is_wanted(row: &SessionRow, frame: &Frame) -> bool
+/// Is it a message of the row's session, no longer than the row lets messages be?
+pub fn is_wanted(row: &SessionRow, frame: &Frame) -> bool
     ensures { result ≡ is_wanted row.now frame.now }
 {
     matches!(frame.kind, Kind::Data)
@@ -71,16 +72,8 @@ fn serve_frame<C: Link, D: Disk, O: Sink>(
     requires row { recv_row receiver.old ≡ row.now }
     requires lawful { IsLawful frame.now }
     ensures step { (x : Step) × TakesFrame D.told row.now frame.now receiver.old receiver.new x
-        (record {
-          link = C.faults link.old;
-          now_link = C.faults link.new;
-          out = O.faults out.old;
-          now_out = O.faults
-              out.new;
-          other = D.told.count (recv_disk receiver.old);
-          now_other = D.told.count (recv_disk receiver.new);
-        })
-        result
+        (all_counts (C.faults link.old) (C.faults link.new) (O.faults out.old) (O.faults out.new)
+        (D.told.count (recv_disk receiver.old)) (D.told.count (recv_disk receiver.new))) result
         × Grows (C.sent link.old) (C.sent link.new) x.sent
         × Appends (O.written out.old) (O.written out.new) x.printed }
     ensures gives { Draws (C.gives link.old) (C.gives link.new) [] }
@@ -122,16 +115,8 @@ pub fn receive_with<C: Link, D: Disk, O: Sink>(
     requires ready { IsRecvReady D.told receiver.old }
     requires row { recv_row receiver.old ≡ row.now }
     ensures receives { (x : Reception) × Receives row.now (recv_size receiver.old) looks (place_of receiver.old) x
-        (record {
-          link = C.faults link.old;
-          now_link = C.faults link.new;
-          out = O.faults out.old;
-          now_out = O.faults
-              out.new;
-          other = D.told.count (recv_disk receiver.old);
-          now_other = D.told.count (recv_disk receiver.new);
-        })
-        result
+        (all_counts (C.faults link.old) (C.faults link.new) (O.faults out.old) (O.faults out.new)
+        (D.told.count (recv_disk receiver.old)) (D.told.count (recv_disk receiver.new))) result
         × Draws (C.gives link.old) (C.gives link.new) (x.heard ++ x.looks)
         × Grows (C.sent link.old) (C.sent link.new) x.sent
         × Appends (O.written out.old) (O.written out.new) x.printed

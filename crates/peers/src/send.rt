@@ -4,7 +4,7 @@ ghost use Rattle.std.specs.Io.KnownBytes.{Appends, Consumes};
 ghost use Rattle.pump_frame.specs.Counts.{Rose};
 ghost use Rattle.pump_frame.specs.Frames.{IsLawful};
 ghost use Rattle.pump_link.specs.Tells.{Draws, Grows};
-ghost use Rattle.peers.specs.Outputs.{PrintsPart};
+ghost use Rattle.peers.specs.Outputs.{PrintsPart, all_counts, counts};
 ghost use Rattle.peers.specs.Payloads.{TakesAtMost};
 ghost use Rattle.peers.specs.Sending.{Turn, AreTurns, Last, EndsBy, Sending, Sends, ack_line, looks_of, sendings};
 ghost use Rattle.peers.specs.Sending.{printings, lines, all_looks, all_sent, all_printed};
@@ -60,15 +60,7 @@ fn send_message<C: Link, O: Sink>(
 ) -> Option<SendEnd>
     requires lawful { IsLawful frame.now }
     ensures line { (last : Last) × SendsMessage frame.now last
-        (record {
-          link = C.faults link.old;
-          now_link = C.faults link.new;
-          out = O.faults out.old;
-          now_out = O.faults
-              out.new;
-          other = 0;
-          now_other = 0;
-        }) result
+        (counts (C.faults link.old) (C.faults link.new) (O.faults out.old) (O.faults out.new)) result
         × (last.left ≡ left.new) × (left.old ≡ left.new + length last.wait.looks)
         × Draws (C.gives link.old) (C.gives link.new) last.wait.looks
         × Grows (C.sent link.old) (C.sent link.new) last.sent
@@ -106,15 +98,8 @@ fn send_lines<C: Link, I: Source, O: Sink>(
         × (left.old ≡ last.left + length (looks_of turns ++ last.wait.looks))
         × Consumes (I.left script.old) rest (lines turns) × TakesAtMost 6145 rest (I.left script.new)
         × EndsBy session first (length turns) rest last
-        (record {
-          link = C.faults link.old;
-          now_link = C.faults link.new;
-          out = O.faults out.old;
-          now_out = O.faults
-              out.new;
-          other = I.faults script.old;
-          now_other = I.faults script.new;
-        }) result
+        (all_counts (C.faults link.old) (C.faults link.new) (O.faults out.old) (O.faults out.new)
+        (I.faults script.old) (I.faults script.new)) result
         × Draws (C.gives link.old) (C.gives link.new) (looks_of turns ++ last.wait.looks)
         × Grows (C.sent link.old) (C.sent link.new) (sendings session turns ++ last.sent)
         × Appends (O.written out.old) (O.written out.new) (printings turns ++ last.printed) }
@@ -166,15 +151,8 @@ pub fn send_with<C: Link, I: Source, O: Sink>(
     out: &mut O,
 ) -> SendEnd
     ensures sends { (x : Sending) × Sends row.now looks (I.left script.old) (I.left script.new) x
-        (record {
-          link = C.faults link.old;
-          now_link = C.faults link.new;
-          out = O.faults out.old;
-          now_out = O.faults
-              out.new;
-          other = I.faults script.old;
-          now_other = I.faults script.new;
-        }) result
+        (all_counts (C.faults link.old) (C.faults link.new) (O.faults out.old) (O.faults out.new)
+        (I.faults script.old) (I.faults script.new)) result
         × Draws (C.gives link.old) (C.gives link.new) (all_looks x)
         × Grows (C.sent link.old) (C.sent link.new) (all_sent row.now x)
         × Appends (O.written out.old) (O.written out.new) (all_printed x) }

@@ -35,36 +35,19 @@ fn begun(id: u32, low: Name, high: Name) -> SessionRow
     }
 }
 
-fn with_number(row: SessionRow, key: RowKey, number: u32) -> SessionRow
+fn with_number(mut row: SessionRow, key: RowKey, number: u32) -> SessionRow
     ensures { result ≡ with_number row key number }
 {
     match key {
-        RowKey::Capacity => SessionRow {
-            capacity: number,
-            ..row
-        },
-        RowKey::Message => SessionRow {
-            message: number,
-            ..row
-        },
-        RowKey::Window => SessionRow {
-            window: number,
-            ..row
-        },
-        RowKey::Start => SessionRow {
-            start: number,
-            ..row
-        },
-        RowKey::Longest => SessionRow {
-            longest: number,
-            ..row
-        },
-        RowKey::Resend => SessionRow {
-            resend: number,
-            ..row
-        },
-        _ => row,
+        RowKey::Capacity => row.capacity = number,
+        RowKey::Message => row.message = number,
+        RowKey::Window => row.window = number,
+        RowKey::Start => row.start = number,
+        RowKey::Longest => row.longest = number,
+        RowKey::Resend => row.resend = number,
+        _ => {}
     }
+    row
 }
 
 // The row with the document's number at this key, if it is lawful then.

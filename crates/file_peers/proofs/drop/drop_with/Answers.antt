@@ -1,5 +1,5 @@
 use Rattle.std.proofs.Common.{◌∙◌, refl, arith}
-use Rattle.file_peers.proofs.Delivering.{counts}
+use Rattle.peers.specs.Outputs.{counts}
 use Rattle.file_peers.proofs.Greeting.{welcome_few, ungreeted, settle_ends, greeted}
 use Rattle.file_peers.proofs.drop.drop_with.Goals as goal
 

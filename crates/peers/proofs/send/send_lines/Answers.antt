@@ -2,7 +2,8 @@ use Rattle.std.proofs.Common.{◌≡◌, ◌≤◌, ◌<◌, ◌∙◌, ◌+◌,
 use Rattle.std.proofs.KnownBytes.{Appends-nil}
 use Rattle.pump_link.proofs.Grown.{Draws-nil, Grows-nil}
 use Rattle.peers.proofs.Awaited.{rose_earlier}
-use Rattle.peers.proofs.SendingLines.{counts, consumes_start, comes_some, read_ahead, done_ends, read_ends, script_ends, skip, acked, message_ends, message_earlier}
+use Rattle.peers.specs.Outputs.{all_counts}
+use Rattle.peers.proofs.SendingLines.{consumes_start, comes_some, read_ahead, done_ends, read_ends, script_ends, skip, acked, message_ends, message_earlier}
 use Rattle.peers.proofs.send.send_lines.Goals as goal
 
 pub lines-init : goal.lines-init
@@ -16,22 +17,22 @@ lines-init g c = record {
 }
 
 pub returns-in-Bad : goal.returns-in-Bad
-returns-in-Bad g c = record { lines = script_ends _ _ _ _ _ _ _ _ _ _ _ _ _ c.lines.invariant.so_far _ (omega (arith, c.lines.auto.number-fits)) (read_ahead _ _ _ c.next.ensures.taken c.next.ensures.ahead) (counts 0 0 0 0 0 0) _ c.saturating_add.ensures (inl c.in-Bad.ensures.next); out_later = c.lines.invariant.out_later }
+returns-in-Bad g c = record { lines = script_ends _ _ _ _ _ _ _ _ _ _ _ _ _ c.lines.invariant.so_far _ (omega (arith, c.lines.auto.number-fits)) (read_ahead _ _ _ c.next.ensures.taken c.next.ensures.ahead) (all_counts 0 0 0 0 0 0) _ c.saturating_add.ensures (inl c.in-Bad.ensures.next); out_later = c.lines.invariant.out_later }
 
 pub returns-in-End : goal.returns-in-End
-returns-in-End g c = record { lines = done_ends _ _ _ _ _ _ _ _ _ _ _ _ _ c.lines.invariant.so_far _ (omega (arith, c.lines.auto.number-fits)) (read_ahead _ _ _ c.next.ensures.taken c.next.ensures.ahead) (counts 0 0 0 0 0 0) c.in-End.ensures.next; out_later = c.lines.invariant.out_later }
+returns-in-End g c = record { lines = done_ends _ _ _ _ _ _ _ _ _ _ _ _ _ c.lines.invariant.so_far _ (omega (arith, c.lines.auto.number-fits)) (read_ahead _ _ _ c.next.ensures.taken c.next.ensures.ahead) (all_counts 0 0 0 0 0 0) c.in-End.ensures.next; out_later = c.lines.invariant.out_later }
 
 pub returns-in-Failed : goal.returns-in-Failed
 returns-in-Failed g c =
     let was = c.lines.invariant in
-    record { lines = read_ends _ _ _ _ _ _ _ _ _ _ _ _ _ was.so_far _ (omega (arith, c.lines.auto.number-fits)) (read_ahead _ _ _ c.next.ensures.taken c.next.ensures.ahead) (counts 0 0 0 0 (g.I.Source.faults c.args.script.now) (g.I.Source.faults c.next.new.script)) (rose_earlier _ _ _ was.source_later (c.in-Failed.ensures.failed refl)); out_later = was.out_later }
+    record { lines = read_ends _ _ _ _ _ _ _ _ _ _ _ _ _ was.so_far _ (omega (arith, c.lines.auto.number-fits)) (read_ahead _ _ _ c.next.ensures.taken c.next.ensures.ahead) (all_counts 0 0 0 0 (g.I.Source.faults c.args.script.now) (g.I.Source.faults c.next.new.script)) (rose_earlier _ _ _ was.source_later (c.in-Failed.ensures.failed refl)); out_later = was.out_later }
 
 pub returns-then-number : goal.returns-then-number
 returns-then-number g c =
     let was = c.lines.invariant in
     let p = c.in-Payload.ensures.next in
     let line : 4294967295 ≡ min (c.lines.number + 1) 4294967295 = omega (arith, c.if-number.true) in
-    record { lines = script_ends _ _ _ _ _ _ _ _ _ _ _ _ _ was.so_far _ (omega (arith, c.lines.auto.number-fits)) (read_ahead _ _ _ c.next.ensures.taken c.next.ensures.ahead) (counts 0 0 0 0 0 0) _ line (inr (c.if-number.true, comes_some _ _ p.0 p.2)); out_later = was.out_later }
+    record { lines = script_ends _ _ _ _ _ _ _ _ _ _ _ _ _ was.so_far _ (omega (arith, c.lines.auto.number-fits)) (read_ahead _ _ _ c.next.ensures.taken c.next.ensures.ahead) (all_counts 0 0 0 0 0 0) _ line (inr (c.if-number.true, comes_some _ _ p.0 p.2)); out_later = was.out_later }
 
 pub returns-in-Some : goal.returns-in-Some
 returns-in-Some g c =

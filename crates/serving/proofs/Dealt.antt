@@ -11,7 +11,6 @@ use Rattle.stable_buffer.specs.Stands.{LowStands, HighStands}
 use Rattle.recovery.specs.Deals.{HandsFit, IsDealt, number_of, numbered, passing}
 use Rattle.serving.specs.Finding.{AtOpening, FindsBoth}
 use Rattle.recovery.proofs.Refill.{passing_next}
-use Rattle.two_worlds.proofs.Opening.Restarting.{number_some}
 
 abbrev number_in : Option ℕ → ℕ
 number_in None = 0
@@ -33,6 +32,10 @@ comes_next capacity removed next messages high low wide count places fit =
 some_if : (b : Bool) (n : ℕ) → is_some (if b then Some n else None) ≡ b
 some_if true n = refl
 some_if false n = refl
+
+number_some : (hand : Option Item) → is_some (number_of hand) ≡ is_some hand
+number_some None = refl
+number_some (Some x) = refl
 
 -- a message is held exactly where all places are taken
 held_is : (hand : Option Item) (b : Bool) (n : ℕ) → number_of hand ≡ (if b then Some n else None) → is_some hand ≡ b

@@ -1,6 +1,5 @@
 -- How a session comes to its end where its disks are not opened, or its workers don't run.
 use Rattle.std.proofs.Common.{◌≡◌, ◌⊎◌, ◌≤◌, ◌&&◌, ℕ, Bool, true, false, List, None, inl, inr, refl, sym, subst, arith}
-use Rattle.std.specs.Prelude.{Result, Ok, Err, IfOk, IfErr, OnErr}
 use Rattle.disk_model.specs.Disk.{Meaning}
 use Rattle.disk_model.specs.declared.name.Role.{Role}
 use Rattle.disk_model.specs.declared.name.Role.TheVariants as roles
@@ -11,9 +10,10 @@ use Rattle.pump_link.specs.Ports.{PortsStep}
 use Rattle.relay_side.specs.Sides.{ports}
 use Rattle.relay_side.specs.declared.side.RelaySide.{RelaySide}
 use Rattle.serving.specs.Doors.{WantDoor, OpensAndShuts}
-use Rattle.serving.specs.Sessions.{RoseAt, SessionComes, end_unserved}
-use Rattle.serving.specs.declared.doors.NotServed.{NotServed}
-use Rattle.serving.specs.declared.doors.NotServed.TheVariants as not_served
+use Rattle.relay_threads.specs.declared.rounds_end.RoundsEnd.{RoundsEnd}
+use Rattle.serving.specs.Sessions.{RoseAt, SessionComes}
+use Rattle.serving.specs.declared.session.SessionEnd.{SessionEnd}
+use Rattle.serving.specs.declared.session.SessionEnd.TheVariants.{NoDoor, NoThread, Ended}
 
 -- the high disk has not failed less often
 pub high_calls : {S : Type 0} (m : Meaning S) (row : SessionRow) (low old new : S) (failed : Bool) → CallsHigh m row low old new failed → m.count old ≤ m.count new
@@ -32,22 +32,19 @@ rose_so m row roles.Recv device low high now_low now_high either low_calls high_
 
 -- ---- opened ----
 
-pub if_ok : {T F : Type 0} (r : Result T F) (x : T) (P : T → Type 0) → r ≡ Ok x → IfOk r P → P x
-if_ok r x P is h = subst (λ z. IfOk z P) is h
-
-pub if_err : {T F : Type 0} (r : Result T F) (x : F) (P : F → Type 0) → r ≡ Err x → IfErr r P → P x
-if_err r x P is h = subst (λ z. IfErr z P) is h
-
-pub on_err : {T F : Type 0} (r : Result T F) (x : F) (P : Type 0) → r ≡ Err x → OnErr r P → P
-on_err r x P is h = subst (λ z. OnErr z P) is h
-
 module _ {P K R L O S : Type 0} (did : P → List (PortsStep L R) → Type 0) (faults : P → ℕ) (m : Meaning S) (row : SessionRow) (low_side high_side now_low_side now_high_side : RelaySide P K) (tape now_tape : O) (low high now_low now_high : S)
-    (fine : m.tells → refused_pump row (m.reading low) (m.reading high) ≡ None) (idle : (now_low_side.clock ≡ low_side.clock) × (now_high_side.clock ≡ high_side.clock) × (now_tape ≡ tape))
-    (still : m.tells → (m.reading now_low ≡ m.reading low) × (m.reading now_high ≡ m.reading high)) (counts : (m.count low ≤ m.count now_low) × (m.count high ≤ m.count now_high)) where
-  -- no worker ran
-  pub unserved_comes : (why : NotServed)
-      → (why ≡ not_served.NoDoor → WantDoor (ports did faults low_side.ports now_low_side.ports) (ports did faults high_side.ports now_high_side.ports) row.low_port row.high_port)
-      → (why ≡ not_served.NoThread → OpensAndShuts (ports did faults low_side.ports now_low_side.ports) row.low_port × OpensAndShuts (ports did faults high_side.ports now_high_side.ports) row.high_port)
-      → SessionComes did faults m row low_side high_side now_low_side now_high_side tape now_tape low high now_low now_high (end_unserved why)
-  unserved_comes not_served.NoDoor wanting unstarted = record { opens = fine; wanting = λ e. wanting refl; unstarted = λ e. absurd (cc); closed = λ e. absurd (cc); idle = λ e. idle; still = λ e. still; counts = counts }
-  unserved_comes not_served.NoThread wanting unstarted = record { opens = fine; wanting = λ e. absurd (cc); unstarted = λ e. unstarted refl; closed = λ e. absurd (cc); idle = λ e. idle; still = λ e. still; counts = counts }
+    (fine : m.tells → refused_pump row (m.reading low) (m.reading high) ≡ None) (counts : (m.count low ≤ m.count now_low) × (m.count high ≤ m.count now_high)) where
+  abbrev Comes : SessionEnd → Type 0
+  Comes end = SessionComes did faults m row low_side high_side now_low_side now_high_side tape now_tape low high now_low now_high end
+
+  -- both workers ran
+  pub ended_comes : (how_low how_high : RoundsEnd) → Comes (Ended how_low how_high)
+  ended_comes how_low how_high = record { opens = fine; wanting = λ e. absurd (cc); unstarted = λ e. absurd (cc); closed = λ e. absurd (cc); idle = λ e. absurd (cc); still = λ e. absurd (cc); counts = counts }
+
+  module _ (idle : (now_low_side.clock ≡ low_side.clock) × (now_high_side.clock ≡ high_side.clock) × (now_tape ≡ tape)) (still : m.tells → (m.reading now_low ≡ m.reading low) × (m.reading now_high ≡ m.reading high)) where
+    -- no worker ran: a door was wanting, or the second thread
+    pub no_door_comes : WantDoor (ports did faults low_side.ports now_low_side.ports) (ports did faults high_side.ports now_high_side.ports) row.low_port row.high_port → Comes NoDoor
+    no_door_comes wanting = record { opens = fine; wanting = λ e. wanting; unstarted = λ e. absurd (cc); closed = λ e. absurd (cc); idle = λ e. idle; still = λ e. still; counts = counts }
+
+    pub no_thread_comes : OpensAndShuts (ports did faults low_side.ports now_low_side.ports) row.low_port × OpensAndShuts (ports did faults high_side.ports now_high_side.ports) row.high_port → Comes NoThread
+    no_thread_comes unstarted = record { opens = fine; wanting = λ e. absurd (cc); unstarted = λ e. unstarted; closed = λ e. absurd (cc); idle = λ e. idle; still = λ e. still; counts = counts }

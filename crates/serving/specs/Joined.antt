@@ -11,27 +11,27 @@ use Rattle.relay_threads.specs.LowStays.{stayed as low_stayed}
 use Rattle.relay_threads.specs.PairsRead.{pairs_of}
 use Rattle.relay_threads.specs.Records.{life_made}
 use Rattle.relay_threads.specs.StoredMessages.{payloads, stored_in}
+use Rattle.relay_threads.specs.declared.rounds_end.RoundsEnd.{RoundsEnd}
 use Rattle.serving.specs.Doors.{DoorsTell}
 use Rattle.serving.specs.Finding.{AtOpening, FindsBoth, high_opening, low_opening}
 use Rattle.serving.specs.HighServing.{HighServed}
 use Rattle.serving.specs.LowServing.{LowServed}
 use Rattle.serving.specs.PassageEnds.{EndTells, IsStillOf}
 use Rattle.serving.specs.SentStored.{SentIsStored}
-use Rattle.serving.specs.declared.doors.WorkersEnd.{WorkersEnd}
 
 -- Both workers made their rounds, or ended before, from one opening on. What the low end of the passage did and what
 -- the high end did fits one passage of the row, so what the high worker sent is what the low one stored.
 pub record BothServed {D L S : Type 0} (t : DoorsTell D L) (m : Meaning S) (row : SessionRow) (rounds : ℕ)
     (key : List ℕ) (low_side high_side : SideTells D L)
     (written now_written : Option (List ℕ)) (faults now_faults : ℕ) (low_disk high_disk now_low_disk now_high_disk : S)
-    (ends : WorkersEnd) : Type 0 where
+    (how_low how_high : RoundsEnd) : Type 0 where
   pub o : AtOpening
   pub found : FindsBoth m row o low_disk high_disk
   pub l : Low
   pub h : High
   pub low : LowServed t m row rounds key low_side written now_written faults now_faults o l low_disk now_low_disk
-      ends.low
-  pub high : HighServed t m row rounds high_side o h high_disk now_high_disk ends.high
+      how_low
+  pub high : HighServed t m row rounds high_side o h high_disk now_high_disk how_high
   pub fits : Fits (shape_of_row row) l h
   -- what High sent are the messages that were found and those that Low's life stored; `low.made` has one such cut
   pub sent : (parts : List Part) → IsCut row (life_made (low_opening o) (low_stayed [] low.stays)) parts

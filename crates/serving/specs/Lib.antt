@@ -11,4 +11,3 @@ pub mod Replayed
 pub mod SentStored
 pub mod Sessions
 pub mod Starting
-pub mod WorkerEnds

@@ -1,5 +1,5 @@
 -- How a session that was to be served ended.
-use Rattle.std.specs.Prelude.{◌≡◌, ℕ, ◌≤◌, Bool, true, false, List, None, Some}
+use Rattle.std.specs.Prelude.{◌≡◌, ℕ, ◌≤◌, Bool, true, false, List, None, Some, Result, Ok, Err}
 use Rattle.disk_model.specs.Disk.{Meaning}
 use Rattle.disk_model.specs.declared.name.Role.{Role}
 use Rattle.disk_model.specs.declared.name.Role.TheVariants as roles
@@ -10,22 +10,18 @@ use Rattle.recovery.specs.Refusals.{refused_pump}
 use Rattle.pump_link.specs.Ports.{PortsStep}
 use Rattle.relay_side.specs.Sides.{ports}
 use Rattle.relay_side.specs.declared.side.RelaySide.{RelaySide}
+use Rattle.relay_threads.specs.declared.rounds_end.RoundsEnd.{RoundsEnd}
 use Rattle.serving.specs.Doors.{WantDoor, OpensAndShuts}
-use Rattle.serving.specs.declared.doors.NotServed.{NotServed}
-use Rattle.serving.specs.declared.doors.NotServed.TheVariants as not_served
-use Rattle.serving.specs.declared.doors.WorkersEnd.{WorkersEnd}
-use Rattle.serving.specs.declared.session.ServedOver.{ServedOver}
-use Rattle.serving.specs.declared.session.ServedOver.TheVariants as over
 use Rattle.serving.specs.declared.session.SessionEnd.{SessionEnd}
 use Rattle.serving.specs.declared.session.SessionEnd.TheVariants.{Memory, Refused, NoDoor, NoThread, Ended}
 
--- the end, by why the workers did not run
-abbrev pub end_unserved : NotServed → SessionEnd
-end_unserved not_served.NoDoor = NoDoor
-end_unserved not_served.NoThread = NoThread
+-- the end, by how the workers ended, or where no second thread could be started
+abbrev pub workers_end : {T F : Type 0} → Result T F → RoundsEnd → RoundsEnd → SessionEnd
+workers_end (Ok done) low high = Ended low high
+workers_end (Err fault) low high = NoThread
 
-abbrev pub IfEnded : SessionEnd → (WorkersEnd → Type 0) → Type 0
-IfEnded (Ended ends) Holds = Holds ends
+abbrev pub IfEnded : SessionEnd → (RoundsEnd → RoundsEnd → Type 0) → Type 0
+IfEnded (Ended low high) Holds = Holds low high
 IfEnded Memory Holds = Unit {0}
 IfEnded (Refused role why) Holds = Unit {0}
 IfEnded NoDoor Holds = Unit {0}
@@ -37,11 +33,11 @@ is_opened Memory = false
 is_opened (Refused role why) = false
 is_opened NoDoor = true
 is_opened NoThread = true
-is_opened (Ended ends) = true
+is_opened (Ended low high) = true
 
 -- the workers ran
 abbrev pub has_run : SessionEnd → Bool
-has_run (Ended ends) = true
+has_run (Ended low high) = true
 has_run Memory = false
 has_run (Refused role why) = false
 has_run NoDoor = false
@@ -61,8 +57,8 @@ OpensBy m row low high now_low now_high (Refused role why) =
     × (is_device why ≡ false → m.tells → refused_pump row (m.reading low) (m.reading high) ≡ Some (role, why))
 OpensBy m row low high now_low now_high NoDoor = m.tells → refused_pump row (m.reading low) (m.reading high) ≡ None
 OpensBy m row low high now_low now_high NoThread = m.tells → refused_pump row (m.reading low) (m.reading high) ≡ None
-OpensBy m row low high now_low now_high (Ended ends) = m.tells → refused_pump row (m.reading low) (m.reading high)
-    ≡ None
+OpensBy m row low high now_low now_high (Ended how_low how_high) =
+    m.tells → refused_pump row (m.reading low) (m.reading high) ≡ None
 OpensBy m row low high now_low now_high Memory = Unit {0}
 
 -- How a session came to its end, by the causes of each, and what it left. `did` and `faults` are what its ports tell.
@@ -82,22 +78,3 @@ pub record SessionComes {P K R L O S : Type 0} (did : P → List (PortsStep L R)
   pub still : has_run end ≡ false → m.tells → (m.reading now_low ≡ m.reading low)
       × (m.reading now_high ≡ m.reading high)
   pub counts : (m.count low ≤ m.count now_low) × (m.count high ≤ m.count now_high)
-
--- ---- over two ends, which come back where workers had them ----
-
-abbrev pub end_in : {D L H : Type 0} → ServedOver D L H → SessionEnd
-end_in (over.Unserved served) = served.end
-end_in (over.Ended ends parts) = Ended ends
-
-abbrev pub low_in : {D L H : Type 0} → ServedOver D L H → D
-low_in (over.Unserved served) = served.low
-low_in (over.Ended ends parts) = parts.low
-
-abbrev pub high_in : {D L H : Type 0} → ServedOver D L H → D
-high_in (over.Unserved served) = served.high
-high_in (over.Ended ends parts) = parts.high
-
--- where the workers ran, this is so of their ends and of the two ends of the passage
-abbrev pub IfEndsBack : {D L H : Type 0} → ServedOver D L H → (WorkersEnd → L → H → Type 0) → Type 0
-IfEndsBack (over.Unserved served) Holds = has_run served.end ≡ false
-IfEndsBack (over.Ended ends parts) Holds = Holds ends parts.low_end parts.high_end

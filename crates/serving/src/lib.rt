@@ -1,7 +1,7 @@
 //! A session that is served: both workers side by side in two threads, each at the door of its own port, over
 //! the two disks of the relay. `serve_session` opens the disks and the doors, lets the workers make so many
-//! rounds, shuts the doors and hands the disks back; `SessionEnd` says how that went, and `WorkersEnd` how
-//! each worker ended. `read_key` takes the key of the random words off a source. The law
+//! rounds, shuts the doors and hands the disks back; `SessionEnd` says how that went, and how each worker
+//! ended. `read_key` takes the key of the random words off a source. The law
 //! `served_records_replay` says that the record of a served session replays. It knows no file, no word of the
 //! command line and no status.
 #![tactic(auto)]
@@ -16,7 +16,6 @@ mod starting;
 mod watched;
 mod works;
 
-pub use doors::WorkersEnd;
 pub use keys::{KeyFault, read_key};
 pub use laws::served_records_replay;
 pub use session::{Served, SessionEnd, serve_session};

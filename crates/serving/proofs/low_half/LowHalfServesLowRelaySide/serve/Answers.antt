@@ -62,7 +62,7 @@ returns g c =
       }
       | else-is_err b ↦
           let r = b.low_rounds-self.ensures in
-          let (stays, so, ends, did, gave, links, moments, words, tape, is_record, levels, does, stores) = r.rounds in
+          let done = r.rounds in
           let opening = opening_written _ _ _ _ _ parts c.row.ensures c.next-next.ensures c.is_err.ensures.value b.if-is_err.false w.ok in
           record {
             opened = c.in-Some.door;
@@ -72,23 +72,23 @@ returns g c =
             did = shuts (ap (λ s. s.ports) b.side-is);
             ran = subst Ran (λ i. ((sym b.side-is i).clock, sym b.tape-is i, sym b.door-is i, (sym b.self-is i).parts, sym b.self2-is i)) (record {
               is_opened = true;
-              stays = stays;
-              so = so;
-              ends = ends;
-              did = did;
-              gave = gave;
+              stays = done.stays;
+              so = done.so;
+              ends = done.ends;
+              did = done.did;
+              gave = done.gave;
               port = r.port;
-              links = links;
-              moments = moments;
-              words = words;
+              links = done.links;
+              moments = done.moments;
+              words = done.words;
               begins = opening_reads _ _ parts c.row.ensures c.next-next.ensures w.reads;
-              tape = reaches_behind (Appends (O.written c.args.tape.now) (O.written b.low_rounds-self.new.tape)) (Appends (O.written c.write_opening-opened.new.tape) (O.written b.low_rounds-self.new.tape)) _ _ _ _ (opening_text parts) _ w.cause.later (λ rest more. Appends-trans _ _ _ _ rest opening more) tape;
-              levels = levels;
+              tape = reaches_behind (Appends (O.written c.args.tape.now) (O.written b.low_rounds-self.new.tape)) (Appends (O.written c.write_opening-opened.new.tape) (O.written b.low_rounds-self.new.tape)) _ _ _ _ (opening_text parts) _ w.cause.later (λ rest more. Appends-trans _ _ _ _ rest opening more) done.lines;
+              levels = done.levels;
               still = (r.shape, r.place);
-              does = does;
-              stores = stores;
-              is_record = is_record;
-              store = r.ready.of;
+              does = done.does;
+              stores = done.stores;
+              is_record = done.is_record;
+              store = done.rests.of;
               counts = r.counts;
               device = r.device;
             });

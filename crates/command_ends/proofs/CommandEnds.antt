@@ -3,9 +3,10 @@ use Rattle.std.proofs.Common.{◌≡◌, ◌≤◌, ℕ, List, Option, inl, inr,
 use Rattle.std.specs.Io.KnownBytes.{Appends}
 use Rattle.disk_model.specs.declared.name.Role.{Role}
 use Rattle.pump_frame.specs.Counts.{Rose}
-use Rattle.command_ends.specs.CommandEnds.{EndsSo, ClosesSo, NamesFailed, end_status}
+use Rattle.command_ends.specs.Causes.{HasEndCause}
+use Rattle.command_ends.specs.CommandEnds.{EndsSo, ClosesSo, IsSessionEnd, NamesFailed, end_status}
 use Rattle.command_ends.specs.declared.command_end.CommandEnd.{CommandEnd}
-use Rattle.command_ends.specs.declared.command_end.CommandEnd.TheVariants.{Done, Unread, Failed, Unwritten}
+use Rattle.command_ends.specs.declared.command_end.CommandEnd.TheVariants.{Done, Memory, Unread, NoRow, Failed, Refused, Unwritten}
 
 module _ (Writes : CommandEnd → List ℕ → Type 0) (never : (output : List ℕ) → Writes Unwritten output → ⊥) (old new : Option (List ℕ)) where
   written_so : (end : CommandEnd) (bytes : List ℕ) → Writes end bytes → Appends old new bytes → EndsSo Writes old new end
@@ -16,31 +17,49 @@ module _ (Writes : CommandEnd → List ℕ → Type 0) (never : (output : List �
   ends_so before now bytes end result (inl h) w = subst (EndsSo Writes old new) (sym h.0) (written_so end bytes w h.1)
   ends_so before now bytes end result (inr h) w = subst (EndsSo Writes old new) (sym h.0) (end, bytes, w, h.1)
 
--- a command that ends with a failed disk was to end so
-pub closed_end : (old new : Option (List ℕ)) (before now : ℕ) (bytes : List ℕ) (end result : CommandEnd) (role : Role) → ClosesSo old new before now bytes end result → result ≡ Failed role → end ≡ Failed role
-closed_end old new before now bytes end result role (inl h) is = sym h.0 ∙ is
-closed_end old new before now bytes end result role (inr h) is = let other = h.0 in cc (sym other ∙ is)
+-- .. where the end is not that nothing could be written
+module _ (Writes : CommandEnd → List ℕ → Type 0) (old new : Option (List ℕ)) where
+  other_written : (end : CommandEnd) (bytes : List ℕ) → (end ≡ Unwritten → ⊥) → Writes end bytes → Appends old new bytes → EndsSo Writes old new end
+  other_written Unwritten bytes other h a = absurd (other refl)
+  other_written end bytes other h a = (bytes, h, a)
+
+  pub other_ends : (before now : ℕ) (bytes : List ℕ) (end result : CommandEnd) → (end ≡ Unwritten → ⊥) → ClosesSo old new before now bytes end result → Writes end bytes → EndsSo Writes old new result
+  other_ends before now bytes end result other (inl h) w = subst (EndsSo Writes old new) (sym h.0) (other_written end bytes other w h.1)
+  other_ends before now bytes end result other (inr h) w = subst (EndsSo Writes old new) (sym h.0) (end, bytes, w, h.1)
+
+pub session_status : (end : CommandEnd) → IsSessionEnd end → end_status end ≤ 8
+session_status Done only = omega arith
+session_status Memory only = omega arith
+session_status Unread only = omega arith
+session_status Unwritten only = omega arith
+session_status (NoRow why) only = omega arith
+session_status (Failed role) only = omega arith
+session_status (Refused role why) only = omega arith
+session_status end only = absurd only
+
+-- the causes of the end that it was to have, and of one that could not be written
+pub closed_cause : (Ends : CommandEnd → Type 0) (One Other : Role → Type 0) (Read : Type 0) (old new : Option (List ℕ)) (before now : ℕ) (bytes : List ℕ) (end result : CommandEnd)
+    → Ends Unwritten → ClosesSo old new before now bytes end result → HasEndCause Ends One Read ⊥ end → ((role : Role) → One role → Other role) → HasEndCause Ends Other Read (Rose before now) result
+closed_cause Ends One Other Read old new before now bytes end result last (inl h) c weaker = record {
+  only = subst Ends (sym h.0) c.only;
+  device = λ role is. weaker role (c.device role (sym h.0 ∙ is));
+  read = λ is. c.read (sym h.0 ∙ is);
+  unwritten = λ is. absurd (c.unwritten (sym h.0 ∙ is));
+}
+closed_cause Ends One Other Read old new before now bytes end result last (inr h) c weaker = let other = h.0 in record {
+  only = subst Ends (sym other) last;
+  device = λ role is. absurd (let e = sym other ∙ is in cc);
+  read = λ is. absurd (let e = sym other ∙ is in cc);
+  unwritten = λ is. h.2;
+}
+
+-- .. of a command that was done
+pub done_cause : (Device : Role → Type 0) (Read : Type 0) (old new : Option (List ℕ)) (before now : ℕ) (bytes : List ℕ) (result : CommandEnd) → ClosesSo old new before now bytes Done result
+    → HasEndCause IsSessionEnd Device Read (Rose before now) result
+done_cause Device Read old new before now bytes result h =
+    closed_cause IsSessionEnd Device Device Read old new before now bytes Done result tt h (record { only = tt; device = λ role is. absurd (cc); read = λ is. absurd (cc); unwritten = λ is. absurd (cc) }) (λ role d. d)
 
 -- each disk that the end may name failed
 pub names_failed : (fails : ℕ → Role → Type 0) (session : ℕ) (end : CommandEnd) → ((role : Role) → end ≡ Failed role → fails session role) → NamesFailed fails session end
 names_failed fails session (Failed role) names = names role refl
 names_failed fails session end names = tt
-
--- ---- a command that was done, or whose output failed ----
-
-module _ (old new : Option (List ℕ)) (before now : ℕ) (bytes : List ℕ) (result : CommandEnd) where
-  pub done_not_failed : (role : Role) → ClosesSo old new before now bytes Done result → result ≡ Failed role → ⊥
-  done_not_failed role (inl h) is = let done = h.0 in cc (sym done ∙ is)
-  done_not_failed role (inr h) is = let other = h.0 in cc (sym other ∙ is)
-
-  pub done_not_unread : ClosesSo old new before now bytes Done result → result ≡ Unread → ⊥
-  done_not_unread (inl h) is = let done = h.0 in cc (sym done ∙ is)
-  done_not_unread (inr h) is = let other = h.0 in cc (sym other ∙ is)
-
-  pub done_unwritten : ClosesSo old new before now bytes Done result → result ≡ Unwritten → Rose before now
-  done_unwritten (inl h) is = let done = h.0 in cc (sym done ∙ is)
-  done_unwritten (inr h) is = h.2
-
-  pub done_status : ClosesSo old new before now bytes Done result → end_status result ≤ 8
-  done_status (inl h) = subst (λ (e : CommandEnd). end_status e ≤ 8) (sym h.0) (omega arith)
-  done_status (inr h) = subst (λ (e : CommandEnd). end_status e ≤ 8) (sym h.0) (omega arith)

@@ -5,9 +5,12 @@ use Rattle.std.proofs.lemmas.List.{take_at, take_all}
 use Rattle.std.specs.Prelude.{find, ◌==◌}
 use Rattle.std.specs.Option.{ok_or}
 use Rattle.disk_model.specs.Shelf.{ReadsFile}
+use Rattle.disk_model.specs.declared.name.Role.{Role}
 use Rattle.pump_frame.specs.declared.row.SessionRow.{SessionRow}
 use Rattle.session_table.specs.Documents.{table_of}
 use Rattle.pump_frame.specs.Counts.{Rose}
+use Rattle.command_ends.specs.Causes.{HasEndCause}
+use Rattle.command_ends.specs.CommandEnds.{IsSessionEnd}
 use Rattle.command_ends.specs.Tables.{row_among, row_in, IsRowIn, IsRowOf, IsTableEnd, StopsAtTable, StopsAtFile}
 use Rattle.command_ends.specs.declared.command_end.CommandEnd.{CommandEnd}
 use Rattle.command_ends.specs.declared.command_end.CommandEnd.TheVariants.{Memory, Unread, NoRow}
@@ -52,6 +55,20 @@ row_read (Some bytes) old new slice n session answer reads size few is given =
     row_of_bytes bytes session (row_among session (table_of bytes)) answer (short_row bytes session short) (subst (λ (b : List ℕ). IsRowIn answer (row_among session (table_of b))) same given)
 
 -- ---- a table that gives no row ----
+
+pub table_cause : (Ends : CommandEnd → Type 0) (Device : Role → Type 0) (Read Write : Type 0) (end : CommandEnd) → IsTableEnd end → ((e : CommandEnd) → IsTableEnd e → Ends e) → (◌≡◌ {A = Result SessionRow CommandEnd} (Err end) (Err Unread) → Read) → HasEndCause Ends Device Read Write end
+table_cause Ends Device Read Write end only known read = record {
+  only = known end only;
+  device = λ role is. absurd (subst IsTableEnd is only);
+  read = λ is. read (ap Err is);
+  unwritten = λ is. absurd (subst IsTableEnd is only);
+}
+
+pub table_only : (end : CommandEnd) → IsTableEnd end → IsSessionEnd end
+table_only Memory only = tt
+table_only Unread only = tt
+table_only (NoRow why) only = tt
+table_only end only = absurd only
 
 pub stops_at_table : (file : Option (List ℕ)) (session : ℕ) (end : CommandEnd) → IsTableEnd end → IsRowOf file session (Err end) → StopsAtTable file session end
 stops_at_table file session Memory only row = tt

@@ -44,6 +44,28 @@ pub enum CommandEnd {
     Unfinished { number: u64 },
     /// The output could not be written.
     Unwritten,
+    /// `wrap`: the receiver has the whole file: its bytes, and its messages.
+    Wrapped { bytes: u64, messages: u64 },
+    /// `wrap`: the receiver has another message with this number than the file, or one that the file lacks.
+    FileDiffers { number: u64 },
+    /// `wrap`, `drop`: the file has 2^48 bytes or more.
+    TooLong,
+    /// `unwrap`: no file has the message with this number there.
+    NotWrapped { number: u64 },
+    /// `unwrap`: the messages begin a file.
+    PartOfFile,
+    /// The folder was not given, or a call on it failed.
+    Folder,
+    /// `collect`: a file is whole that ended with the message of this number, but its name is taken, and also
+    /// the one with that number.
+    NameTaken { number: u64 },
+    /// `drop`: more than one file is marked.
+    Marks,
+    /// `collect`: the register in the folder is none, or is damaged.
+    Register,
+    /// `drop`: the sending of the marked file, whose first message has the number `start`, can't have come to
+    /// so many messages accepted.
+    Step { start: u64, accepted: u64 },
 }
 
 impl CommandEnd {
@@ -52,18 +74,21 @@ impl CommandEnd {
         ensures { result ≡ end_status self.now }
     {
         match self {
-            CommandEnd::Done => 0,
+            CommandEnd::Done | CommandEnd::Wrapped { .. } => 0,
             CommandEnd::Memory => 1,
             CommandEnd::Unread => 3,
             CommandEnd::Unwritten => 4,
             CommandEnd::BadLine { .. } => 5,
             CommandEnd::NoRow(_) => 6,
-            CommandEnd::Failed { .. } => 7,
-            CommandEnd::Refused { .. } => 8,
+            CommandEnd::Failed { .. } | CommandEnd::Folder | CommandEnd::NameTaken { .. } => 7,
+            CommandEnd::Refused { .. } | CommandEnd::Marks | CommandEnd::Register => 8,
             CommandEnd::Unconnected => 9,
             CommandEnd::Ahead { .. } | CommandEnd::Full { .. } => 10,
             CommandEnd::Denied { .. } => 11,
             CommandEnd::Unfinished { .. } => 12,
+            CommandEnd::FileDiffers { .. } | CommandEnd::NotWrapped { .. } => 13,
+            CommandEnd::Step { .. } => 13,
+            CommandEnd::TooLong | CommandEnd::PartOfFile => 14,
         }
     }
 }
@@ -146,22 +171,21 @@ fn put_no_row(why: NoRow, into: &mut ArrayVec<u8, 256>)
     put_two(into, b"fault table", u64::from(number), u64::from(row));
 }
 
-/// Puts the fault that is written at this end, if there is one, into an empty room.
+/// Puts the line that is written at this end, if there is one, into an empty room. (`unwrap`, whose output is
+/// a file, writes none.)
 pub fn put_end(session: u32, end: &CommandEnd, into: &mut ArrayVec<u8, 256>)
     requires { into.old.items ≡ [] }
     ensures { into.new.items ≡ end_line session end.now }
 {
+    let id = u64::from(session);
     match *end {
         CommandEnd::Done | CommandEnd::Memory | CommandEnd::Unwritten => {}
+        CommandEnd::NotWrapped { .. } | CommandEnd::PartOfFile => {}
         CommandEnd::Unread => append_fault(&Fault::Read, into),
         CommandEnd::BadLine { line } => append_fault(&Fault::Script { line }, into),
         CommandEnd::NoRow(why) => put_no_row(why, into),
         CommandEnd::Failed { role } => append_fault(&Fault::Device { session, role }, into),
         CommandEnd::Refused { role, why } => append_fault(&refusal(session, role, why), into),
-        CommandEnd::Unconnected => put(into, b"fault link\n"),
-        CommandEnd::Ahead { number, count } => {
-            put_three(into, b"fault ahead", u64::from(session), number, count);
-        }
         CommandEnd::Full { end, length, size } => {
             let fault = Fault::Full {
                 session,
@@ -171,10 +195,20 @@ pub fn put_end(session: u32, end: &CommandEnd, into: &mut ArrayVec<u8, 256>)
             };
             append_fault(&fault, into);
         }
+        CommandEnd::Unconnected => put(into, b"fault link\n"),
+        CommandEnd::Ahead { number, count } => put_three(into, b"fault ahead", id, number, count),
         CommandEnd::Denied { code, number } => {
             put_two(into, b"fault refused", u64::from(code), number);
         }
         CommandEnd::Unfinished { number } => put_one(into, b"fault unfinished", number),
+        CommandEnd::Wrapped { bytes, messages } => put_three(into, b"wrapped", id, bytes, messages),
+        CommandEnd::FileDiffers { number } => put_two(into, b"fault wrapped", id, number),
+        CommandEnd::TooLong => put(into, b"fault long\n"),
+        CommandEnd::Folder => put_one(into, b"fault folder", id),
+        CommandEnd::NameTaken { number } => put_two(into, b"fault name", id, number),
+        CommandEnd::Marks => put_one(into, b"fault marks", id),
+        CommandEnd::Register => put_one(into, b"fault register", id),
+        CommandEnd::Step { start, accepted } => put_three(into, b"fault step", id, start, accepted),
     }
 }
 
@@ -189,8 +223,8 @@ pub fn close<O: Sink>(bytes: &[u8], end: CommandEnd, out: &mut O) -> CommandEnd
     }
 }
 
-/// Writes the fault of a command that is not done.
-pub fn fail<O: Sink>(session: u32, end: CommandEnd, out: &mut O) -> CommandEnd
+/// Writes the line of this end, if there is one.
+pub fn write_end<O: Sink>(session: u32, end: CommandEnd, out: &mut O) -> CommandEnd
     ensures { ClosesSo (O.written out.old) (O.written out.new) (O.faults out.old) (O.faults out.new)
         (end_line session end) end result }
 {
@@ -199,8 +233,8 @@ pub fn fail<O: Sink>(session: u32, end: CommandEnd, out: &mut O) -> CommandEnd
     close(line.as_slice(), end, out)
 }
 
-/// Writes the fault of a command that came to this end, if there is one, and answers the status of the
-/// program: that of the end, or 4 where the fault could not be written.
+/// Writes the line of this end, if there is one, and answers the status of the program: that of the end, or 4
+/// where the line could not be written.
 pub fn finish<O: Sink>(session: u32, end: CommandEnd, out: &mut O) -> u8
     ensures closes { Closes (O.written out.old) (O.written out.new) session end result }
     ensures cause { (result ≡ end_status end) ⊎ ((result ≡ 4) × Rose (O.faults out.old) (O.faults out.new)) }

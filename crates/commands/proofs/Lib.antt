@@ -1,3 +1,4 @@
+pub mod Caused
 pub mod Failing
 pub mod Formatted
 pub mod LentDisks

@@ -14,9 +14,9 @@ use Rattle.script_replay.specs.Lending.{AreOnShelf}
 use Rattle.script_replay.specs.Shelves.{Places, OfDisks, disk_name, reading_in, reading_at, AllAreBack, ReadsAlike, SparesSession}
 use Rattle.script_replay.specs.declared.disks.TakenDisks.{TakenDisks}
 use Rattle.script_replay.proofs.Shelving.{read_in, name_is}
-use Rattle.commands.specs.LentDisks.{LeavesOtherPair}
+use Rattle.commands.specs.LentDisks.{LeavesOtherPair, StopsAtShelf}
 use Rattle.command_ends.specs.CommandEnds.{end_line}
-use Rattle.commands.specs.Migrating.{AreInTurn, AreMoved, AreTurned, AreRows, HasNoRows, Migrates, MigratesSo, ReadsOthersAlike, MigratesTo, MigrateStops, HaltsSo, MovesTo, StopsMove, FailsAt, IsUntaken, counted_line, halt_of, halted, session_at}
+use Rattle.commands.specs.Migrating.{AreInTurn, AreMoved, AreTurned, AreRows, HasNoRows, Migrates, MigratesSo, ReadsOthersAlike, MigratesTo, MigrateStops, HaltsSo, MovesTo, StopsMove, FailsAt, counted_line, halt_of, halted, session_at}
 use Rattle.commands.specs.Showing.{end_at}
 use Rattle.command_ends.specs.Tables.{HasRow, IsTableEnd}
 use Rattle.commands.specs.TakenDisks.{AreReadAt, AreOutAt, RiseAt, RoseAt, ReadOn, SpareOn}
@@ -210,7 +210,7 @@ role_by role other why e = elim (ends_at role why) [
     same : Failed role ≡ Failed other → role ≡ other
     same e = cc
 
-pub untaken_stops : (before after : Places) (row new_row : SessionRow) (is_new : Bool) (end : CommandEnd) → IsUntaken end → ReadsAlike before after → MigrateStops before after row new_row is_new end
+pub untaken_stops : (before after : Places) (row new_row : SessionRow) (is_new : Bool) (end : CommandEnd) → StopsAtShelf end → ReadsAlike before after → MigrateStops before after row new_row is_new end
 untaken_stops before after row new_row is_new Memory h alike = alike
 untaken_stops before after row new_row is_new (Failed role) h alike = (
   (λ name other. alike name),

@@ -1,6 +1,5 @@
 -- What sending a file over a session leaves on the shelf.
-use Rattle.std.proofs.Common.{◌≡◌, ◌⊎◌, inl, inr, ℕ, false, List, [], Option, Some, None, refl, sym, ap, ◌∙◌, subst, arith}
-use Rattle.std.specs.Io.KnownBytes.{Appends}
+use Rattle.std.proofs.Common.{◌≡◌, ◌⊎◌, inl, inr, ℕ, false, List, [], Option, Some, None, refl, sym, ◌∙◌, subst, arith}
 use Rattle.std.proofs.KnownBytes.{Consumes-nil}
 use Rattle.disk_model.specs.Disk.{Meaning}
 use Rattle.disk_model.specs.declared.name.Role.{Role}
@@ -25,18 +24,17 @@ use Rattle.script_replay.specs.declared.disks.TakenDisks.{TakenDisks}
 use Rattle.script_replay.proofs.Shelving.{others_so}
 use Rattle.stable_buffer.specs.Format.{new_bytes}
 use Rattle.two_worlds.specs.Openings.{IsLeft, IsRefused, StandForFound, readied}
-use Rattle.two_worlds.specs.declared.applied.Stop.{Stop}
 use Rattle.two_worlds.specs.declared.applied.Stop.TheVariants as stops
-use Rattle.command_ends.specs.CommandEnds.{end_status}
+use Rattle.command_ends.specs.CommandEnds.{IsWrapEnd}
+use Rattle.commands.specs.Formatting.{IsDiskEnd}
+use Rattle.commands.specs.LentDisks.{StopsAtShelf}
 use Rattle.commands.specs.Showing.{end_at}
 use Rattle.commands.specs.TakenDisks.{RoseAt}
 use Rattle.command_ends.specs.Tables.{HasRow, IsTableEnd}
-use Rattle.commands.specs.Wrapping.{IsSendStatus, FailsAtFormat, HoldsFile, HoldsOn, Leaves, NamesFailedDisk, RefusesSession, StopsAtShelf, Wraps, WrapsFrom, WritesSend, end_of_stop, end_of_wrap, is_long, send_line, send_status}
+use Rattle.commands.specs.Wrapping.{FailsAtFormat, HoldsFile, HoldsOn, Leaves, RefusesSession, Wraps, WrapsFrom, end_of_wrap, is_long}
 use Rattle.command_ends.specs.declared.command_end.CommandEnd.{CommandEnd}
-use Rattle.command_ends.specs.declared.command_end.CommandEnd.TheVariants.{Memory, Unread, NoRow, Failed, Unwritten}
-use Rattle.commands.specs.declared.wrap.SendEnd.{SendEnd}
-use Rattle.commands.specs.declared.wrap.SendEnd.TheVariants.{Sent, Differs, TooLong, Stopped}
-use Rattle.command_ends.proofs.CommandEnds.{names_failed}
+use Rattle.command_ends.specs.declared.command_end.CommandEnd.TheVariants.{Memory, Unread, NoRow, Failed, Refused, Unwritten}
+use Rattle.commands.proofs.Caused.{at_disk}
 use Rattle.commands.proofs.Formatted.{was, is}
 
 -- ---- ends ----
@@ -45,84 +43,73 @@ pub untaken_stops : (fault : ShelfFault) (role : Role) (end : CommandEnd) → (f
 untaken_stops shelf_faults.Memory role end memory failed = subst StopsAtShelf (sym (memory refl)) tt
 untaken_stops shelf_faults.Failed role end memory failed = subst StopsAtShelf (sym (failed refl)) tt
 
+-- a disk that is not opened is neither too long, nor that nothing could be written
+disk_short : (end : CommandEnd) → IsDiskEnd end → is_long end ≡ false
+disk_short Memory only = refl
+disk_short (Failed role) only = refl
+disk_short (Refused role why) only = refl
+disk_short end only = absurd only
+
+pub wrap_disk_only : (end : CommandEnd) → IsDiskEnd end → IsWrapEnd end
+wrap_disk_only Memory only = tt
+wrap_disk_only (Failed role) only = tt
+wrap_disk_only (Refused role why) only = tt
+wrap_disk_only end only = absurd only
+
 pub same_length : (answer : WrapEnd) → is_long (end_of_wrap answer) ≡ is_too_long answer
 same_length (answers.Done bytes messages) = refl
 same_length answers.Memory = refl
 same_length answers.Read = refl
 same_length answers.TooLong = refl
 same_length (answers.Differs number) = refl
-same_length (answers.Refused role why) = refl
-same_length (answers.Stopped stop) = refl
+same_length (answers.Refused role why) = disk_short (end_at role (Some why)) (at_disk role why)
+same_length (answers.Stopped stops.Line) = refl
+same_length (answers.Stopped (stops.Device role faults)) = refl
+same_length (answers.Stopped (stops.Full end length size)) = refl
+same_length (answers.Stopped (stops.Disk role why)) = refl
 
--- an end of a disk is neither that the file could not be read nor that nothing could be written
-abbrev IsOfDisk : CommandEnd → Type 0
-IsOfDisk Unread = ⊥
-IsOfDisk Unwritten = ⊥
-IsOfDisk end = Unit {0}
-
-of_disk : (role : Role) (why : Why) → IsOfDisk (end_at role (Some why))
-of_disk role (whys.Device faults) = tt
-of_disk role (whys.NotABuffer size bytes) = tt
-of_disk role (whys.WrongShape field at wanted) = tt
-of_disk role (whys.BadRegister first second) = tt
-of_disk role (whys.Mismatch removed accepted) = tt
-of_disk role (whys.BadSlot number length) = tt
-of_disk role (whys.Apart count bound) = tt
-of_disk role (whys.Differs number) = tt
-of_disk role (whys.NotEmpty size) = tt
-of_disk role (whys.Small held capacity) = tt
-of_disk role (whys.TooLong number size) = tt
-
-of_stop : (stop : Stop) → IsOfDisk (end_of_stop stop)
-of_stop stops.Line = tt
-of_stop (stops.Device role faults) = tt
-of_stop (stops.Full end length size) = tt
-of_stop (stops.Disk role why) = tt
-
-pub stopped_end : (a b : CommandEnd) → Stopped a ≡ Stopped b → a ≡ b
-stopped_end a b e = cc
-
-pub never_unwritten : (answer : WrapEnd) → end_of_wrap answer ≡ Stopped Unwritten → ⊥
+pub never_unwritten : (answer : WrapEnd) → end_of_wrap answer ≡ Unwritten → ⊥
 never_unwritten (answers.Done bytes messages) e = cc
 never_unwritten answers.Memory e = cc
 never_unwritten answers.Read e = cc
 never_unwritten answers.TooLong e = cc
 never_unwritten (answers.Differs number) e = cc
-never_unwritten (answers.Refused role why) e = subst IsOfDisk (stopped_end _ _ e) (of_disk role why)
-never_unwritten (answers.Stopped stop) e = subst IsOfDisk (stopped_end _ _ e) (of_stop stop)
+never_unwritten (answers.Refused role why) e = subst IsDiskEnd e (at_disk role why)
+never_unwritten (answers.Stopped stops.Line) e = cc
+never_unwritten (answers.Stopped (stops.Device role faults)) e = cc
+never_unwritten (answers.Stopped (stops.Full end length size)) e = cc
+never_unwritten (answers.Stopped (stops.Disk role why)) e = cc
 
--- ---- statuses ----
+-- .. nor that the file could not be read
+pub reads_alone : (answer : WrapEnd) → end_of_wrap answer ≡ Unread → answer ≡ answers.Read
+reads_alone (answers.Done bytes messages) e = absurd (cc)
+reads_alone answers.Memory e = absurd (cc)
+reads_alone answers.Read e = refl
+reads_alone answers.TooLong e = absurd (cc)
+reads_alone (answers.Differs number) e = absurd (cc)
+reads_alone (answers.Refused role why) e = absurd (subst IsDiskEnd e (at_disk role why))
+reads_alone (answers.Stopped stops.Line) e = absurd (cc)
+reads_alone (answers.Stopped (stops.Device role faults)) e = absurd (cc)
+reads_alone (answers.Stopped (stops.Full end length size)) e = absurd (cc)
+reads_alone (answers.Stopped (stops.Disk role why)) e = absurd (cc)
 
-at_disk : (role : Role) (why : Why) → IsSendStatus (end_status (end_at role (Some why)))
-at_disk role (whys.Device faults) = inl (omega arith)
-at_disk role (whys.NotABuffer size bytes) = inl (omega arith)
-at_disk role (whys.WrongShape field at wanted) = inl (omega arith)
-at_disk role (whys.BadRegister first second) = inl (omega arith)
-at_disk role (whys.Mismatch removed accepted) = inl (omega arith)
-at_disk role (whys.BadSlot number length) = inl (omega arith)
-at_disk role (whys.Apart count bound) = inl (omega arith)
-at_disk role (whys.Differs number) = inl (omega arith)
-at_disk role (whys.NotEmpty size) = inl (omega arith)
-at_disk role (whys.Small held capacity) = inl (omega arith)
-at_disk role (whys.TooLong number size) = inl (omega arith)
+pub wrap_only : (answer : WrapEnd) → IsWrapEnd (end_of_wrap answer)
+wrap_only (answers.Done bytes messages) = tt
+wrap_only answers.Memory = tt
+wrap_only answers.Read = tt
+wrap_only answers.TooLong = tt
+wrap_only (answers.Differs number) = tt
+wrap_only (answers.Refused role why) = wrap_disk_only (end_at role (Some why)) (at_disk role why)
+wrap_only (answers.Stopped stops.Line) = tt
+wrap_only (answers.Stopped (stops.Device role faults)) = tt
+wrap_only (answers.Stopped (stops.Full end length size)) = tt
+wrap_only (answers.Stopped (stops.Disk role why)) = tt
 
-pub wrap_status : (answer : WrapEnd) → IsSendStatus (send_status (end_of_wrap answer))
-wrap_status (answers.Done bytes messages) = inl (omega arith)
-wrap_status answers.Memory = inl (omega arith)
-wrap_status answers.Read = inl (omega arith)
-wrap_status answers.TooLong = inr (inr (inr refl))
-wrap_status (answers.Differs number) = inr (inr (inl refl))
-wrap_status (answers.Refused role why) = at_disk role why
-wrap_status (answers.Stopped stops.Line) = inl (omega arith)
-wrap_status (answers.Stopped (stops.Device role faults)) = inl (omega arith)
-wrap_status (answers.Stopped (stops.Full end length size)) = inr (inl refl)
-wrap_status (answers.Stopped (stops.Disk role why)) = inl (omega arith)
-
-pub table_status : (end : CommandEnd) → IsTableEnd end → IsSendStatus (end_status end)
-table_status Memory h = inl (omega arith)
-table_status Unread h = inl (omega arith)
-table_status (NoRow why) h = inl (omega arith)
-table_status end h = absurd h
+pub wrap_table_only : (end : CommandEnd) → IsTableEnd end → IsWrapEnd end
+wrap_table_only Memory h = tt
+wrap_table_only Unread h = tt
+wrap_table_only (NoRow why) h = tt
+wrap_table_only end h = absurd h
 
 -- ---- a disk that failed ----
 
@@ -151,15 +138,15 @@ module _ {D : Type 0} (m : Meaning D) (old new : Trio D) where
   refused_rose at role (whys.Small held capacity) h e = absurd (cc)
   refused_rose at role (whys.TooLong number size) h e = absurd (cc)
 
-  pub device_rose : (answer : WrapEnd) (role : Role) → HasDiskCause m old new answer → end_of_wrap answer ≡ Stopped (Failed role) → RoseAt m role (taken old) (taken new)
+  pub device_rose : (answer : WrapEnd) (role : Role) → HasDiskCause m old new answer → end_of_wrap answer ≡ Failed role → RoseAt m role (taken old) (taken new)
   device_rose (answers.Done bytes messages) role h e = absurd (cc)
   device_rose answers.Memory role h e = absurd (cc)
   device_rose answers.Read role h e = absurd (cc)
   device_rose answers.TooLong role h e = absurd (cc)
   device_rose (answers.Differs number) role h e = absurd (cc)
-  device_rose (answers.Refused at why) role h e = refused_rose at role why h (stopped_end _ _ e)
+  device_rose (answers.Refused at why) role h e = refused_rose at role why h e
   device_rose (answers.Stopped stops.Line) role h e = absurd (cc)
-  device_rose (answers.Stopped (stops.Device at faults)) role h e = subst (λ (r : Role). RoseAt m r (taken old) (taken new)) (failed_role at role (stopped_end _ _ e)) (rose_at at faults h)
+  device_rose (answers.Stopped (stops.Device at faults)) role h e = subst (λ (r : Role). RoseAt m r (taken old) (taken new)) (failed_role at role e) (rose_at at faults h)
   device_rose (answers.Stopped (stops.Full end length size)) role h e = absurd (cc)
   device_rose (answers.Stopped (stops.Disk at why)) role h e = absurd (cc)
 
@@ -256,24 +243,10 @@ module _ {D : Type 0} (m : Meaning D) (tells : m.tells) (before mid now : Places
 
 -- ---- the command ----
 
-pub wraps_row : (faults now_faults : ℕ) (file : Option (List ℕ)) (before between after : Places) (session : ℕ) (row : SessionRow) (left now_left : Option (List ℕ)) (end : SendEnd) → HasRow file session row → between ≡ before
+pub wraps_row : (faults now_faults : ℕ) (file : Option (List ℕ)) (before between after : Places) (session : ℕ) (row : SessionRow) (left now_left : Option (List ℕ)) (end : CommandEnd) → HasRow file session row → between ≡ before
     → WrapsFrom between after row left now_left end → Wraps faults now_faults file before after session left now_left end
 wraps_row faults now_faults file before between after session row left now_left end has same h = inr (row, has, subst (λ (places : Places). WrapsFrom places after row left now_left end) same h)
 
 -- the source was not read
 pub nothing_given : (left : Option (List ℕ)) → Gave 0 left left false
 nothing_given left = ([], Consumes-nil left, (λ e. absurd (cc)), λ e. omega arith)
-
-pub writes : (Ends : SendEnd → Type 0) (session : ℕ) (old new : Option (List ℕ)) (end : SendEnd) → (end ≡ Stopped Unwritten → ⊥) → Ends end → Appends old new (send_line session end) → WritesSend Ends session old new end
-writes Ends session old new (Sent bytes messages) other h a = (h, a)
-writes Ends session old new (Differs number) other h a = (h, a)
-writes Ends session old new TooLong other h a = (h, a)
-writes Ends session old new (Stopped Unwritten) other h a = absurd (other refl)
-writes Ends session old new (Stopped end) other h a = (h, a)
-
--- each disk that the end may name failed
-pub names_failed_disk : (fails : ℕ → Role → Type 0) (session : ℕ) (end : SendEnd) → ((role : Role) → end ≡ Stopped (Failed role) → fails session role) → NamesFailedDisk fails session end
-names_failed_disk fails session (Sent bytes messages) names = tt
-names_failed_disk fails session (Differs number) names = tt
-names_failed_disk fails session TooLong names = tt
-names_failed_disk fails session (Stopped end) names = names_failed fails session end (λ role is. names role (ap Stopped is))

@@ -28,6 +28,12 @@ abbrev pub LeavesBut : Places → Places → ℕ → Type 0
 LeavesBut before after session = (other : DiskName) → (other ≡ disk_name session roles.Low → ⊥)
     → (other ≡ disk_name session roles.High → ⊥) → after other ≡ before other
 
+-- a disk could not be taken off the shelf
+abbrev pub StopsAtShelf : CommandEnd → Type 0
+StopsAtShelf Memory = Unit {0}
+StopsAtShelf (Failed role) = Unit {0}
+StopsAtShelf end = ⊥
+
 -- the receiver's disk, which reads this, could not be taken, or not be opened
 abbrev pub StopsAtDisk : List ℕ → SessionRow → CommandEnd → Type 0
 StopsAtDisk found row Memory = Unit {0}

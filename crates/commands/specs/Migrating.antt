@@ -164,12 +164,6 @@ HaltsSo before after row new_row halt =
     (is_new : Bool) × (halt.session ≡ session_at row.id new_row.id is_new)
     × MigrateStops before after row new_row is_new halt.end
 
--- they could not be taken off the shelf
-abbrev pub IsUntaken : CommandEnd → Type 0
-IsUntaken Memory = Unit {0}
-IsUntaken (Failed role) = Unit {0}
-IsUntaken end = ⊥
-
 -- three disks by either name, and the counts as they are told
 abbrev pub trio_of : {D : Type 0} → TakenDisks D → Trio D
 trio_of disks = record { low = disks.low; high = disks.high; recv = disks.recv }

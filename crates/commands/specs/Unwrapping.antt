@@ -16,60 +16,44 @@ use Rattle.command_ends.specs.CommandEnds.{NamesFailed, end_status}
 use Rattle.command_ends.specs.Tables.{StopsAtTable, HasRow}
 use Rattle.commands.specs.LentDisks.{StopsAtDisk}
 use Rattle.command_ends.specs.declared.command_end.CommandEnd.{CommandEnd}
-use Rattle.command_ends.specs.declared.command_end.CommandEnd.TheVariants.{NoRow, Failed, Unwritten}
+use Rattle.command_ends.specs.declared.command_end.CommandEnd.TheVariants.{Done, NoRow, Failed, Unwritten, NotWrapped}
+use Rattle.command_ends.specs.declared.command_end.CommandEnd.TheVariants.{PartOfFile}
 use Rattle.command_ends.specs.declared.no_row.NoRow.TheVariants.{Short}
-use Rattle.commands.specs.declared.unwrap.UnwrapEnd.{UnwrapEnd}
-use Rattle.commands.specs.declared.unwrap.UnwrapEnd.TheVariants.{Whole, Unfinished, NotWrapped, Stopped}
-
-abbrev pub unwrap_status : UnwrapEnd → ℕ
-unwrap_status Whole = 0
-unwrap_status (NotWrapped number) = 13
-unwrap_status Unfinished = 14
-unwrap_status (Stopped end) = end_status end
-
--- one of its statuses
-abbrev pub IsUnwrapStatus : ℕ → Type 0
-IsUnwrapStatus status = (status ≤ 8) ⊎ ((status ≡ 13) ⊎ (status ≡ 14))
 
 -- how the command ends where the messages were gathered so
-abbrev pub end_of_gather : Result Gathered GatherFault → UnwrapEnd
-end_of_gather (Ok gathered) = if gathered.whole then Whole else Unfinished
+abbrev pub end_of_gather : Result Gathered GatherFault → CommandEnd
+end_of_gather (Ok gathered) = if gathered.whole then Done else PartOfFile
 end_of_gather (Err (gathers.NotWrapped number)) = NotWrapped number
-end_of_gather (Err (gathers.Device faults)) = Stopped (Failed roles.Recv)
-end_of_gather (Err gathers.Write) = Stopped Unwritten
+end_of_gather (Err (gathers.Device faults)) = Failed roles.Recv
+end_of_gather (Err gathers.Write) = Unwritten
 
 -- Of the sink the second value is that at the end; `found` is what the receiver's disk reads. The disk could not be
 -- taken or not be opened, and nothing was written; or the messages that it stands for were gathered.
-abbrev pub UnwrapsOn : SessionRow → List ℕ → Option (List ℕ) → Option (List ℕ) → UnwrapEnd → Type 0
+abbrev pub UnwrapsOn : SessionRow → List ℕ → Option (List ℕ) → Option (List ℕ) → CommandEnd → Type 0
 UnwrapsOn row found old new end =
-    ((stop : CommandEnd) × StopsAtDisk found row stop × (end ≡ Stopped stop) × Appends old new [])
+    (StopsAtDisk found row end × Appends old new [])
     ⊎ ((refused_receiver row receiver_size found ≡ None)
     × ((messages : List (List ℕ)) × RecvStands row messages found × (gathered : Result Gathered GatherFault)
     × (end ≡ end_of_gather gathered) × Gathers row.message messages old new gathered))
 
 -- the row's messages are too short for a length
-abbrev pub UnwrapsFrom : SessionRow → List ℕ → Option (List ℕ) → Option (List ℕ) → UnwrapEnd → Type 0
+abbrev pub UnwrapsFrom : SessionRow → List ℕ → Option (List ℕ) → Option (List ℕ) → CommandEnd → Type 0
 UnwrapsFrom row found old new end =
-    ((row.message < 9) × (end ≡ Stopped (NoRow (Short row.id))) × Appends old new [])
+    ((row.message < 9) × (end ≡ NoRow (Short row.id)) × Appends old new [])
     ⊎ ((9 ≤ row.message) × UnwrapsOn row found old new end)
 
--- the disk that the end names failed, where `fails` says which did
-abbrev pub NamesFailedDisk : (ℕ → Role → Type 0) → ℕ → UnwrapEnd → Type 0
-NamesFailedDisk fails session (Stopped end) = NamesFailed fails session end
-NamesFailedDisk fails session end = Unit {0}
-
 -- With the row of the session, if the table has one; `file` is the table's. Every disk reads as it did, and the disk
--- that failed is named.
+-- that failed is named, where `fails` says which did.
 abbrev pub Unwraps : Option (List ℕ) → Places → Places → (ℕ → Role → Type 0) → ℕ → Option (List ℕ) → Option (List ℕ)
-    → UnwrapEnd → Type 0
+    → CommandEnd → Type 0
 Unwraps file before after fails session old new end =
-    ReadsAlike before after × NamesFailedDisk fails session end
-    × (((stop : CommandEnd) × StopsAtTable file session stop × (end ≡ Stopped stop) × Appends old new [])
+    ReadsAlike before after × NamesFailed fails session end
+    × ((StopsAtTable file session end × Appends old new [])
     ⊎ ((row : SessionRow) × HasRow file session row
     × UnwrapsFrom row (reading_at before row.id roles.Recv) old new end))
 
 -- .. with this status
 abbrev pub EndsUnwrap : Option (List ℕ) → Places → Places → (ℕ → Role → Type 0) → ℕ → Option (List ℕ) → Option (List ℕ)
     → ℕ → Type 0
-EndsUnwrap file before after fails session old new status = (end : UnwrapEnd) × (unwrap_status end ≡ status)
+EndsUnwrap file before after fails session old new status = (end : CommandEnd) × (end_status end ≡ status)
     × Unwraps file before after fails session old new end

@@ -1,11 +1,8 @@
 -- What sending a file over a session leaves and writes, by how it ends. `before` and `after` say where each disk is.
-use Rattle.std.specs.Prelude.{◌≡◌, ◌⊎◌, ℕ, ◌<◌, ◌≤◌, Bool, true, false, List, [], ◌∷◌, length, Option, Some, codes}
-use Rattle.std.specs.Prelude.{decimal}
-use Rattle.std.specs.Io.KnownBytes.{Appends}
+use Rattle.std.specs.Prelude.{◌≡◌, ◌⊎◌, ℕ, ◌<◌, ◌≤◌, Bool, true, false, List, [], length, Option, Some}
 use Rattle.disk_model.specs.declared.name.Role.{Role}
 use Rattle.pump_frame.specs.declared.payload.Payload.{Payload}
 use Rattle.pump_frame.specs.declared.row.SessionRow.{SessionRow}
-use Rattle.pump_link.specs.Causes.{AppendsPrefix}
 use Rattle.pump_wrapper.specs.Comparing.{Begins}
 use Rattle.pump_wrapper.specs.Cutting.{Gave}
 use Rattle.pump_wrapper.specs.Wrapped.{wrapped}
@@ -16,29 +13,22 @@ use Rattle.pump_wrapper.specs.declared.file_sender.WrapEnd.TheVariants as answer
 use Rattle.recovery.specs.Calls.{is_device}
 use Rattle.recovery.specs.declared.why.Why.TheVariants as whys
 use Rattle.script_reader.specs.Openings.{Found, accepted_in}
-use Rattle.script_reader.specs.Transcript.{line_with_end}
 use Rattle.stable_buffer.specs.Format.{new_bytes}
 use Rattle.script_replay.specs.Shelves.{Places, OfDisks, HasFound, IsRefusedFor, LeavesOtherSessions, ReadiesSession}
 use Rattle.script_replay.specs.Shelves.{ReadsAlike, reading_at}
 use Rattle.two_worlds.specs.declared.applied.Stop.{Stop}
 use Rattle.two_worlds.specs.declared.applied.Stop.TheVariants as stops
-use Rattle.command_ends.specs.CommandEnds.{NamesFailed, end_line, end_status}
+use Rattle.command_ends.specs.CommandEnds.{NamesFailed, end_line}
+use Rattle.commands.specs.LentDisks.{StopsAtShelf}
 use Rattle.commands.specs.Showing.{end_at}
 use Rattle.command_ends.specs.Tables.{HasRow, StopsAtFile}
 use Rattle.command_ends.specs.declared.command_end.CommandEnd.{CommandEnd}
 use Rattle.command_ends.specs.declared.command_end.CommandEnd.TheVariants.{Memory, Unread, BadLine, NoRow, Failed}
 use Rattle.command_ends.specs.declared.no_row.NoRow.TheVariants.{Short}
-use Rattle.command_ends.specs.declared.command_end.CommandEnd.TheVariants.{Refused, Full, Unwritten}
-use Rattle.commands.specs.declared.wrap.SendEnd.{SendEnd}
-use Rattle.commands.specs.declared.wrap.SendEnd.TheVariants.{Sent, Differs, TooLong, Stopped}
+use Rattle.command_ends.specs.declared.command_end.CommandEnd.TheVariants.{Refused, Full, Wrapped, FileDiffers}
+use Rattle.command_ends.specs.declared.command_end.CommandEnd.TheVariants.{TooLong}
 
 -- ---- ends ----
-
-abbrev pub send_status : SendEnd → ℕ
-send_status (Sent bytes messages) = 0
-send_status (Differs number) = 13
-send_status TooLong = 14
-send_status (Stopped end) = end_status end
 
 -- how the command ends where the pump's lines were stopped so
 abbrev pub end_of_stop : Stop → CommandEnd
@@ -48,32 +38,14 @@ end_of_stop (stops.Full end size_of_message size) = Full end size_of_message siz
 end_of_stop (stops.Disk role why) = Refused role why
 
 -- .. where the sending ended so
-abbrev pub end_of_wrap : WrapEnd → SendEnd
-end_of_wrap (answers.Done bytes messages) = Sent bytes messages
-end_of_wrap answers.Memory = Stopped Memory
-end_of_wrap answers.Read = Stopped Unread
+abbrev pub end_of_wrap : WrapEnd → CommandEnd
+end_of_wrap (answers.Done bytes messages) = Wrapped bytes messages
+end_of_wrap answers.Memory = Memory
+end_of_wrap answers.Read = Unread
 end_of_wrap answers.TooLong = TooLong
-end_of_wrap (answers.Differs number) = Differs number
-end_of_wrap (answers.Refused role why) = Stopped (end_at role (Some why))
-end_of_wrap (answers.Stopped stop) = Stopped (end_of_stop stop)
-
--- ---- what is written ----
-
-abbrev pub sent_line : ℕ → ℕ → ℕ → List ℕ
-sent_line session bytes messages = line_with_end (codes "wrapped" ∷ decimal session ∷ decimal bytes ∷ decimal
-    messages ∷ [])
-
-abbrev pub differs_line : ℕ → ℕ → List ℕ
-differs_line session number = line_with_end (codes "fault" ∷ codes "wrapped" ∷ decimal session ∷ decimal number ∷ [])
-
-abbrev pub long_line : List ℕ
-long_line = line_with_end (codes "fault" ∷ codes "long" ∷ [])
-
-abbrev pub send_line : ℕ → SendEnd → List ℕ
-send_line session (Sent bytes messages) = sent_line session bytes messages
-send_line session (Differs number) = differs_line session number
-send_line session TooLong = long_line
-send_line session (Stopped end) = end_line session end
+end_of_wrap (answers.Differs number) = FileDiffers number
+end_of_wrap (answers.Refused role why) = end_at role (Some why)
+end_of_wrap (answers.Stopped stop) = end_of_stop stop
 
 -- ---- the disks of the session ----
 
@@ -124,62 +96,36 @@ pub record Leaves (before after : Places) (row : SessionRow) (left now_left : Op
 
 -- ---- the command ----
 
--- a disk could not be taken off the shelf
-abbrev pub StopsAtShelf : CommandEnd → Type 0
-StopsAtShelf Memory = Unit {0}
-StopsAtShelf (Failed role) = Unit {0}
-StopsAtShelf end = ⊥
-
 -- over the disks of a row
-abbrev pub WrapsOn : Places → Places → SessionRow → Option (List ℕ) → Option (List ℕ) → SendEnd → Type 0
+abbrev pub WrapsOn : Places → Places → SessionRow → Option (List ℕ) → Option (List ℕ) → CommandEnd → Type 0
 WrapsOn before after row left now_left end =
-    ((stop : CommandEnd) × StopsAtShelf stop × (end ≡ Stopped stop) × ReadsAlike before after)
+    (StopsAtShelf end × ReadsAlike before after)
     ⊎ ((answer : WrapEnd) × (end ≡ end_of_wrap answer) × Leaves before after row left now_left answer)
 
 -- the row's messages are too short for a length
-abbrev pub WrapsFrom : Places → Places → SessionRow → Option (List ℕ) → Option (List ℕ) → SendEnd → Type 0
+abbrev pub WrapsFrom : Places → Places → SessionRow → Option (List ℕ) → Option (List ℕ) → CommandEnd → Type 0
 WrapsFrom before after row left now_left end =
-    ((row.message < 9) × (end ≡ Stopped (NoRow (Short row.id))) × (after ≡ before))
+    ((row.message < 9) × (end ≡ NoRow (Short row.id)) × (after ≡ before))
     ⊎ ((9 ≤ row.message) × WrapsOn before after row left now_left end)
 
 -- with the row of the session, if the table has one; `file` is the table's, `faults` and `now_faults` count the
 -- failed reads of the shelf's files, and `left` and `now_left` are the bytes to send that the source has before and
 -- after
-abbrev pub Wraps : ℕ → ℕ → Option (List ℕ) → Places → Places → ℕ → Option (List ℕ) → Option (List ℕ) → SendEnd → Type 0
+abbrev pub Wraps : ℕ → ℕ → Option (List ℕ) → Places → Places → ℕ → Option (List ℕ) → Option (List ℕ) → CommandEnd
+    → Type 0
 Wraps faults now_faults file before after session left now_left end =
-    ((stop : CommandEnd) × StopsAtFile faults now_faults file session stop × (end ≡ Stopped stop) × (after ≡ before))
+    (StopsAtFile faults now_faults file session end × (after ≡ before))
     ⊎ ((row : SessionRow) × HasRow file session row × WrapsFrom before after row left now_left end)
 
 -- the file is too long
-abbrev pub is_long : SendEnd → Bool
+abbrev pub is_long : CommandEnd → Bool
 is_long TooLong = true
 is_long end = false
 
--- the disk that the end names failed, where `fails` says which did
-abbrev pub NamesFailedDisk : (ℕ → Role → Type 0) → ℕ → SendEnd → Type 0
-NamesFailedDisk fails session (Stopped end) = NamesFailed fails session end
-NamesFailedDisk fails session end = Unit {0}
-
--- .. and it is too long just where the source gave 2^48 bytes, and the disk that failed is named
+-- .. and it is too long just where the source gave 2^48 bytes; the disk that failed is named, where `fails` says which
+-- did; and the line of the end is to be written
 abbrev pub WrapsAll : ℕ → ℕ → Option (List ℕ) → Places → Places → (ℕ → Role → Type 0) → ℕ → Option (List ℕ)
-    → Option (List ℕ) → SendEnd → Type 0
-WrapsAll faults now_faults file before after fails session left now_left end =
+    → Option (List ℕ) → CommandEnd → List ℕ → Type 0
+WrapsAll faults now_faults file before after fails session left now_left end output =
     Wraps faults now_faults file before after session left now_left end × Gave 0 left now_left (is_long end)
-    × NamesFailedDisk fails session end
-
--- it ends so, and its line was written; or a prefix of that was
-abbrev pub WritesSend : (SendEnd → Type 0) → ℕ → Option (List ℕ) → Option (List ℕ) → SendEnd → Type 0
-WritesSend Ends session old new (Stopped Unwritten) = (end : SendEnd) × Ends end
-    × AppendsPrefix old new (send_line session end)
-WritesSend Ends session old new end = Ends end × Appends old new (send_line session end)
-
--- .. with this status
-abbrev pub EndsWrap : ℕ → ℕ → Option (List ℕ) → Places → Places → (ℕ → Role → Type 0) → ℕ → Option (List ℕ)
-    → Option (List ℕ) → Option (List ℕ) → Option (List ℕ) → ℕ → Type 0
-EndsWrap faults now_faults file before after fails session left now_left old new status =
-    (end : SendEnd) × (send_status end ≡ status)
-    × WritesSend (WrapsAll faults now_faults file before after fails session left now_left) session old new end
-
--- one of its statuses
-abbrev pub IsSendStatus : ℕ → Type 0
-IsSendStatus status = (status ≤ 8) ⊎ ((status ≡ 10) ⊎ ((status ≡ 13) ⊎ (status ≡ 14)))
+    × NamesFailed fails session end × (output ≡ end_line session end)

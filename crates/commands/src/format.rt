@@ -6,7 +6,8 @@ ghost use Rattle.disk_model.specs.declared.name.Role.{Role as DiskRole};
 ghost use Rattle.pump_frame.specs.Counts.{Rose};
 ghost use Rattle.pump_frame.specs.Rows.{IsLawfulRow};
 ghost use Rattle.stable_buffer.specs.Format.{new_bytes};
-ghost use Rattle.command_ends.specs.CommandEnds.{EndsSo, end_status};
+ghost use Rattle.command_ends.specs.Causes.{HasEndCause};
+ghost use Rattle.command_ends.specs.CommandEnds.{EndsSo, IsSessionEnd};
 ghost use Rattle.commands.specs.Formatting.{IsFormatted, FormatStops, Formats, FormatsSo, IsDiskEnd, formatted_line};
 ghost use Rattle.script_replay.specs.Failing.{FailsAt};
 ghost use Rattle.script_replay.specs.Shelves.{AllAreBack};
@@ -15,7 +16,7 @@ ghost use Rattle.commands.specs.TakenDisks.{StopsFormat};
 ghost use Rattle.command_ends.specs.declared.command_end.CommandEnd.TheVariants as ends;
 
 use arrayvec::ArrayVec;
-use command_ends::{CommandEnd, close, fail, row_in_file};
+use command_ends::{CommandEnd, close, row_in_file, write_end};
 use command_line::TableName;
 use disk_model::{Disk, DiskFault, Role, Shelf, ShelfFault};
 use pump_frame::SessionRow;
@@ -134,13 +135,13 @@ fn format_row<S: Shelf>(
         → FormatsSo (S.told.file shelf.old table.now) (S.told.disk shelf.old) (S.told.disk shelf.new)
         (FailsAt S.told S.Disk.told shelf.old shelf.new) session result }
     ensures back { S.told.tells → AllAreBack (S.told.disk shelf.old) (S.told.disk shelf.new) }
-    ensures device { (role : DiskRole) → result ≡ Err (ends.Failed role)
-        → FailsAt S.told S.Disk.told shelf.old shelf.new session role }
-    ensures read { result ≡ Err ends.Unread → Rose (S.told.faults shelf.old) (S.told.faults shelf.new) }
-    ensures unwritten { result ≡ Err ends.Unwritten → ⊥ }
-    ensures status { IfErr result (λ end. end_status end ≤ 8) }
+    ensures cause { IfErr result (HasEndCause IsSessionEnd (FailsAt S.told S.Disk.told shelf.old shelf.new session)
+        (Rose (S.told.faults shelf.old) (S.told.faults shelf.new)) ⊥) }
 {
-    let row = row_in_file(alloc, shelf, table.as_str(), session)?;
+    let row = match row_in_file(alloc, shelf, table.as_str(), session) {
+        Ok(row) => row,
+        Err(end) => return Err(end),
+    };
     format_disks(shelf, &row)
 }
 
@@ -168,11 +169,9 @@ pub fn format_session<S: Shelf, O: Sink>(
         → EndsSo (Formats (S.told.file shelf.old table.now) (S.told.disk shelf.old) (S.told.disk shelf.new)
         (FailsAt S.told S.Disk.told shelf.old shelf.new) session) (O.written out.old) (O.written out.new) result }
     ensures back { S.told.tells → AllAreBack (S.told.disk shelf.old) (S.told.disk shelf.new) }
-    ensures device { (role : DiskRole) → result ≡ ends.Failed role
-        → Rose (S.told.disk_faults shelf.old) (S.told.disk_faults shelf.new) }
-    ensures read { result ≡ ends.Unread → Rose (S.told.faults shelf.old) (S.told.faults shelf.new) }
-    ensures unwritten { result ≡ ends.Unwritten → Rose (O.faults out.old) (O.faults out.new) }
-    ensures status { end_status result ≤ 8 }
+    ensures cause { HasEndCause IsSessionEnd
+        (λ role. Rose (S.told.disk_faults shelf.old) (S.told.disk_faults shelf.new))
+        (Rose (S.told.faults shelf.old) (S.told.faults shelf.new)) (Rose (O.faults out.old) (O.faults out.new)) result }
 {
     match format_row(alloc, table, session, shelf) {
         Ok(()) => {
@@ -180,6 +179,6 @@ pub fn format_session<S: Shelf, O: Sink>(
             put_formatted(session, &mut line);
             close(line.as_slice(), CommandEnd::Done, out)
         }
-        Err(end) => fail(session, end, out),
+        Err(end) => write_end(session, end, out),
     }
 }

@@ -13,7 +13,8 @@ ghost use Rattle.pump_frame.specs.Rows.{IsLawfulRow};
 ghost use Rattle.pump_link.specs.Causes.{AppendsPrefix, HasCause};
 ghost use Rattle.script_reader.specs.HexFields.{hex_field};
 ghost use Rattle.stable_buffer.specs.Log.{RecvStands};
-ghost use Rattle.command_ends.specs.CommandEnds.{EndsSo, ClosesSo, end_line, end_status};
+ghost use Rattle.command_ends.specs.Causes.{HasEndCause};
+ghost use Rattle.command_ends.specs.CommandEnds.{EndsSo, ClosesSo, end_line, IsSessionEnd};
 ghost use Rattle.commands.specs.Formatting.{IsDiskEnd};
 ghost use Rattle.commands.specs.Messages.{message_line, message_lines, line_from, PrintsMessages, OpensLog, RefusesLog};
 ghost use Rattle.commands.specs.Messages.{StopsLog};
@@ -24,7 +25,7 @@ ghost use Rattle.command_ends.specs.declared.command_end.CommandEnd.TheVariants 
 use crate::read_disk::{file_room, read_disk};
 use crate::show::end_at;
 use arrayvec::ArrayVec;
-use command_ends::{CommandEnd, fail, put, put_number, row_in_file};
+use command_ends::{CommandEnd, put, put_number, row_in_file, write_end};
 use command_line::TableName;
 use disk_model::{PlainDisk, Role, Shelf};
 use high_receiver::Receiver;
@@ -173,11 +174,9 @@ fn read_log<S: Shelf>(
     ensures stops { IfErr result (λ end. (from : ℕ) → S.told.tells
         → PrintsMessages (S.told.file shelf.old table.now) (disk_file (S.told.file shelf.old) session roles.Recv)
         session from end (end_line session end)) }
-    ensures device { (role : DiskRole) → result ≡ Err (ends.Failed role)
-        → Rose (S.told.faults shelf.old) (S.told.faults shelf.new) }
-    ensures unread { result ≡ Err ends.Unread → Rose (S.told.faults shelf.old) (S.told.faults shelf.new) }
-    ensures unwritten { result ≡ Err ends.Unwritten → ⊥ }
-    ensures status { IfErr result (λ end. end_status end ≤ 8) }
+    ensures cause { IfErr result (HasEndCause IsSessionEnd
+        (λ role. Rose (S.told.faults shelf.old) (S.told.faults shelf.new))
+        (Rose (S.told.faults shelf.old) (S.told.faults shelf.new)) ⊥) }
     ensures disks { S.told.disk shelf.new ≡ S.told.disk shelf.old }
 {
     match row_in_file(alloc, shelf, table.as_str(), session) {
@@ -200,14 +199,11 @@ pub fn print_messages<S: Shelf, O: Sink>(
         (disk_file (S.told.file shelf.old) session roles.Recv) session from) (O.written out.old) (O.written out.new)
         result }
     ensures disks { S.told.disk shelf.new ≡ S.told.disk shelf.old }
-    ensures device { (role : DiskRole) → result ≡ ends.Failed role
-        → Rose (S.told.faults shelf.old) (S.told.faults shelf.new) }
-    ensures read { result ≡ ends.Unread → Rose (S.told.faults shelf.old) (S.told.faults shelf.new) }
-    ensures unwritten { result ≡ ends.Unwritten → Rose (O.faults out.old) (O.faults out.new) }
-    ensures status { end_status result ≤ 8 }
+    ensures cause { HasEndCause IsSessionEnd (λ role. Rose (S.told.faults shelf.old) (S.told.faults shelf.new))
+        (Rose (S.told.faults shelf.old) (S.told.faults shelf.new)) (Rose (O.faults out.old) (O.faults out.new)) result }
 {
     match read_log(alloc, table, session, shelf) {
         Ok(receiver) => write_messages(receiver, session, from, out),
-        Err(end) => fail(session, end, out),
+        Err(end) => write_end(session, end, out),
     }
 }

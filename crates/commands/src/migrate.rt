@@ -8,12 +8,13 @@ ghost use Rattle.pump_frame.specs.Rows.{IsLawfulRow};
 ghost use Rattle.script_replay.specs.Failing.{FailsAt};
 ghost use Rattle.script_replay.specs.Lending.{AreOnShelf};
 ghost use Rattle.script_replay.specs.Shelves.{disk_name, AllAreBack, ReadsAlike};
-ghost use Rattle.command_ends.specs.CommandEnds.{EndsSo, end_status};
+ghost use Rattle.command_ends.specs.Causes.{HasEndCause};
+ghost use Rattle.command_ends.specs.CommandEnds.{EndsSo, IsSessionEnd};
 ghost use Rattle.commands.specs.Formatting.{IsDiskEnd};
 ghost use Rattle.command_ends.specs.Tables.{IsTableEnd};
-ghost use Rattle.commands.specs.LentDisks.{LeavesOtherPair};
+ghost use Rattle.commands.specs.LentDisks.{LeavesOtherPair, StopsAtShelf};
 ghost use Rattle.commands.specs.Migrating.{HasNoRows, AreRows, Migrates, MigratesTo, MovesTo, StopsMove, MigratesSo};
-ghost use Rattle.commands.specs.Migrating.{HaltsSo, IsUntaken, counted, counted_line, halted, session_at, taken_of};
+ghost use Rattle.commands.specs.Migrating.{HaltsSo, counted, counted_line, halted, session_at, taken_of};
 ghost use Rattle.commands.specs.Migrating.{trio_of};
 ghost use Rattle.commands.specs.TakenDisks.{AreReadAt, AreOutAt, RiseAt, CountOn, ReadOn, SpareOn};
 ghost use Rattle.command_ends.specs.declared.command_end.CommandEnd.TheVariants as ends;
@@ -22,7 +23,7 @@ ghost use Rattle.command_ends.specs.declared.no_row.NoRow.{NoRow as NoRowCause};
 use crate::format::untaken;
 use crate::show::end_at;
 use arrayvec::ArrayVec;
-use command_ends::{CommandEnd, NoRow, close, fail, put, put_number, row_in_file};
+use command_ends::{CommandEnd, NoRow, close, put, put_number, row_in_file, write_end};
 use command_line::TableName;
 use disk_model::{Disk, Shelf};
 use pump_frame::SessionRow;
@@ -117,7 +118,7 @@ fn take_both<S: Shelf>(
     ensures others { LeavesOtherPair (S.told.disk shelf.old) (S.told.disk shelf.new) session new_session }
     ensures alike { IfErr result (λ halt. S.told.tells → ReadsAlike (S.told.disk shelf.old) (S.told.disk shelf.new)) }
     ensures back { IfErr result (λ halt. S.told.tells → AllAreBack (S.told.disk shelf.old) (S.told.disk shelf.new)) }
-    ensures untaken { IfErr result (λ halt. IsUntaken halt.end
+    ensures untaken { IfErr result (λ halt. StopsAtShelf halt.end
         × ((is_new : Bool) × (halt.session ≡ session_at session new_session is_new))) }
     ensures later { S.told.disk_faults shelf.old ≤ S.told.disk_faults shelf.new }
     ensures device { IfErr result (λ halt. (role : DiskRole) → halt.end ≡ ends.Failed role
@@ -276,12 +277,9 @@ fn migrate_rows<S: Shelf>(
         (S.told.disk shelf.old) (S.told.disk shelf.new) (FailsAt S.told S.Disk.told shelf.old shelf.new) session
         new_session result }
     ensures back { S.told.tells → AllAreBack (S.told.disk shelf.old) (S.told.disk shelf.new) }
-    ensures device { IfErr result (λ halt. (role : DiskRole) → halt.end ≡ ends.Failed role
-        → FailsAt S.told S.Disk.told shelf.old shelf.new halt.session role) }
-    ensures read { IfErr result (λ halt. halt.end ≡ ends.Unread
-        → Rose (S.told.faults shelf.old) (S.told.faults shelf.new)) }
-    ensures unwritten { IfErr result (λ halt. halt.end ≡ ends.Unwritten → ⊥) }
-    ensures status { IfErr result (λ halt. end_status halt.end ≤ 8) }
+    ensures cause { IfErr result (λ halt.
+        HasEndCause IsSessionEnd (FailsAt S.told S.Disk.told shelf.old shelf.new halt.session)
+        (Rose (S.told.faults shelf.old) (S.told.faults shelf.new)) ⊥ halt.end) }
 {
     match rows_in_files(alloc, table, session, new_table, new_session, shelf) {
         Ok(rows) => migrate_disks(shelf, &rows.row, &rows.new_row),
@@ -320,11 +318,9 @@ pub fn migrate_session<S: Shelf, O: Sink>(
         (S.told.disk shelf.old) (S.told.disk shelf.new) (FailsAt S.told S.Disk.told shelf.old shelf.new) session
         new_session) (O.written out.old) (O.written out.new) result }
     ensures back { S.told.tells → AllAreBack (S.told.disk shelf.old) (S.told.disk shelf.new) }
-    ensures device { (role : DiskRole) → result ≡ ends.Failed role
-        → Rose (S.told.disk_faults shelf.old) (S.told.disk_faults shelf.new) }
-    ensures read { result ≡ ends.Unread → Rose (S.told.faults shelf.old) (S.told.faults shelf.new) }
-    ensures unwritten { result ≡ ends.Unwritten → Rose (O.faults out.old) (O.faults out.new) }
-    ensures status { end_status result ≤ 8 }
+    ensures cause { HasEndCause IsSessionEnd
+        (λ role. Rose (S.told.disk_faults shelf.old) (S.told.disk_faults shelf.new))
+        (Rose (S.told.faults shelf.old) (S.told.faults shelf.new)) (Rose (O.faults out.old) (O.faults out.new)) result }
 {
     match migrate_rows(alloc, table, session, new_table, new_session, shelf) {
         Ok(counts) => {
@@ -332,6 +328,6 @@ pub fn migrate_session<S: Shelf, O: Sink>(
             put_migrated(session, new_session, counts, &mut line);
             close(line.as_slice(), CommandEnd::Done, out)
         }
-        Err(halt) => fail(halt.session, halt.end, out),
+        Err(halt) => write_end(halt.session, halt.end, out),
     }
 }

@@ -6,7 +6,8 @@ ghost use Rattle.disk_model.specs.declared.name.Role.TheVariants as roles;
 ghost use Rattle.pump_frame.specs.Counts.{Rose};
 ghost use Rattle.pump_frame.specs.Rows.{IsLawfulRow};
 ghost use Rattle.stable_buffer.specs.Register.{value_of};
-ghost use Rattle.command_ends.specs.CommandEnds.{EndsSo, end_line, end_status};
+ghost use Rattle.command_ends.specs.Causes.{HasEndCause};
+ghost use Rattle.command_ends.specs.CommandEnds.{EndsSo, end_line, IsSessionEnd};
 ghost use Rattle.commands.specs.Formatting.{IsDiskEnd};
 ghost use Rattle.commands.specs.ReadDisks.{disk_file, AreRead, Holds, IsReadOrNot, refused_recv};
 ghost use Rattle.recovery.specs.Refusals.{refused_disk};
@@ -18,7 +19,7 @@ ghost use Rattle.command_ends.specs.declared.command_end.CommandEnd.TheVariants 
 use crate::read_disk::{file_room, read_disk};
 use crate::show::end_at;
 use arrayvec::ArrayVec;
-use command_ends::{CommandEnd, close, fail, put, put_number, row_in_file};
+use command_ends::{CommandEnd, close, put, put_number, row_in_file, write_end};
 use command_line::TableName;
 use disk_model::{PlainDisk, Role, Shelf};
 use passage::PlainEnds;
@@ -331,11 +332,9 @@ fn status_text<S: Shelf>(
     ensures stops { IfErr result (λ end. S.told.tells
         → TellsStatus (S.told.file shelf.old table.now) (disk_file (S.told.file shelf.old) session)
         (Rose (S.told.faults shelf.old) (S.told.faults shelf.new)) session end (end_line session end)) }
-    ensures device { (role : DiskRole) → result ≡ Err (ends.Failed role)
-        → Rose (S.told.faults shelf.old) (S.told.faults shelf.new) }
-    ensures unread { result ≡ Err ends.Unread → Rose (S.told.faults shelf.old) (S.told.faults shelf.new) }
-    ensures unwritten { result ≡ Err ends.Unwritten → ⊥ }
-    ensures status { IfErr result (λ end. end_status end ≤ 8) }
+    ensures cause { IfErr result (HasEndCause IsSessionEnd
+        (λ role. Rose (S.told.faults shelf.old) (S.told.faults shelf.new))
+        (Rose (S.told.faults shelf.old) (S.told.faults shelf.new)) ⊥) }
     ensures disks { S.told.disk shelf.new ≡ S.told.disk shelf.old }
 {
     match row_in_file(alloc, shelf, table.as_str(), session) {
@@ -358,14 +357,11 @@ pub fn tell_status<S: Shelf, O: Sink>(
         (disk_file (S.told.file shelf.old) session) (Rose (S.told.faults shelf.old) (S.told.faults shelf.new)) session)
         (O.written out.old) (O.written out.new) result }
     ensures disks { S.told.disk shelf.new ≡ S.told.disk shelf.old }
-    ensures device { (role : DiskRole) → result ≡ ends.Failed role
-        → Rose (S.told.faults shelf.old) (S.told.faults shelf.new) }
-    ensures read { result ≡ ends.Unread → Rose (S.told.faults shelf.old) (S.told.faults shelf.new) }
-    ensures unwritten { result ≡ ends.Unwritten → Rose (O.faults out.old) (O.faults out.new) }
-    ensures status { end_status result ≤ 8 }
+    ensures cause { HasEndCause IsSessionEnd (λ role. Rose (S.told.faults shelf.old) (S.told.faults shelf.new))
+        (Rose (S.told.faults shelf.old) (S.told.faults shelf.new)) (Rose (O.faults out.old) (O.faults out.new)) result }
 {
     match status_text(alloc, table, session, shelf) {
         Ok(line) => close(line.as_slice(), CommandEnd::Done, out),
-        Err(end) => fail(session, end, out),
+        Err(end) => write_end(session, end, out),
     }
 }

@@ -7,10 +7,10 @@ ghost use Rattle.pump_frame.specs.Counts.{Rose};
 ghost use Rattle.pump_frame.specs.Rows.{IsLawfulRow};
 ghost use Rattle.script_replay.specs.Shelves.{AllAreBack, ReadsAlike, reading_at};
 ghost use Rattle.commands.specs.LentDisks.{RecvFailsAt};
-ghost use Rattle.commands.specs.Unwrapping.{IsUnwrapStatus, Unwraps, UnwrapsFrom, UnwrapsOn, end_of_gather};
-ghost use Rattle.commands.specs.Unwrapping.{unwrap_status};
+ghost use Rattle.commands.specs.Unwrapping.{Unwraps, UnwrapsFrom, UnwrapsOn, end_of_gather};
+ghost use Rattle.command_ends.specs.Causes.{HasEndCause};
+ghost use Rattle.command_ends.specs.CommandEnds.{IsUnwrapEnd};
 ghost use Rattle.command_ends.specs.declared.command_end.CommandEnd.TheVariants as ends;
-ghost use Rattle.commands.specs.declared.unwrap.UnwrapEnd.TheVariants.{Stopped};
 
 use crate::format::untaken;
 use crate::show::end_at;
@@ -25,58 +25,27 @@ use script_replay::{put_disk_back, take_disk};
 use stable_buffer::RECEIVER_SIZE;
 use std::alloc::Global;
 
-/// How writing the file of a session ends. Nothing but bytes of the file is written, whatever the end.
-#[derive(Clone, Copy)]
-pub enum UnwrapEnd {
-    /// The messages are a file, which was written.
-    Whole,
-    /// The messages begin a file; what they have of it was written.
-    Unfinished,
-    /// No file has the message with this number there; what those before it have was written.
-    NotWrapped { number: u64 },
-    /// The command came to this end. Nothing was written, or a prefix of what the messages have.
-    Stopped { end: CommandEnd },
-}
-
-impl UnwrapEnd {
-    /// The status of the program.
-    pub fn status(&self) -> u8
-        ensures { result ≡ unwrap_status self.now }
-    {
-        match self {
-            UnwrapEnd::Whole => 0,
-            UnwrapEnd::NotWrapped { .. } => 13,
-            UnwrapEnd::Unfinished => 14,
-            UnwrapEnd::Stopped { end } => end.status(),
-        }
-    }
-}
-
 /// How writing a file ended, and the receiver's disk.
 #[derive(Drop)]
 struct Unwrapped<D> {
-    end: UnwrapEnd,
+    end: CommandEnd,
     disk: D,
 }
 
-fn end_of_gather(gathered: Result<Gathered, GatherFault>) -> UnwrapEnd
+fn end_of_gather(gathered: Result<Gathered, GatherFault>) -> CommandEnd
     ensures { result ≡ end_of_gather gathered }
 {
     match gathered {
         Ok(gathered) => {
             if gathered.whole {
-                UnwrapEnd::Whole
+                CommandEnd::Done
             } else {
-                UnwrapEnd::Unfinished
+                CommandEnd::PartOfFile
             }
         }
-        Err(GatherFault::NotWrapped { number }) => UnwrapEnd::NotWrapped { number },
-        Err(GatherFault::Device { .. }) => UnwrapEnd::Stopped {
-            end: CommandEnd::Failed { role: Role::Recv },
-        },
-        Err(GatherFault::Write) => UnwrapEnd::Stopped {
-            end: CommandEnd::Unwritten,
-        },
+        Err(GatherFault::NotWrapped { number }) => CommandEnd::NotWrapped { number },
+        Err(GatherFault::Device { .. }) => CommandEnd::Failed { role: Role::Recv },
+        Err(GatherFault::Write) => CommandEnd::Unwritten,
     }
 }
 
@@ -87,12 +56,12 @@ fn unwrap_on<D: Disk, O: Sink>(row: &SessionRow, disk: D, out: &mut O) -> Unwrap
     ensures unwraps { D.told.tells → UnwrapsOn row.now (D.told.reading disk) (O.written out.old) (O.written out.new)
         result.end }
     ensures same { D.told.tells → D.told.reading result.disk ≡ D.told.reading disk }
-    ensures device { (role : DiskRole) → result.end ≡ Stopped (ends.Failed role)
+    ensures device { (role : DiskRole) → result.end ≡ ends.Failed role
         → Rose (D.told.count disk) (D.told.count result.disk) }
-    ensures role { (role : DiskRole) → result.end ≡ Stopped (ends.Failed role) → role ≡ roles.Recv }
-    ensures status { IsUnwrapStatus (unwrap_status result.end) }
-    ensures unread { result.end ≡ Stopped ends.Unread → ⊥ }
-    ensures unwritten { result.end ≡ Stopped ends.Unwritten → Rose (O.faults out.old) (O.faults out.new) }
+    ensures role { (role : DiskRole) → result.end ≡ ends.Failed role → role ≡ roles.Recv }
+    ensures only { IsUnwrapEnd result.end }
+    ensures unread { result.end ≡ ends.Unread → ⊥ }
+    ensures unwritten { result.end ≡ ends.Unwritten → Rose (O.faults out.old) (O.faults out.new) }
 {
     match open_receiver(disk, row, RECEIVER_SIZE) {
         Ok(mut receiver) => {
@@ -103,40 +72,29 @@ fn unwrap_on<D: Disk, O: Sink>(row: &SessionRow, disk: D, out: &mut O) -> Unwrap
             }
         }
         Err((disk, why)) => Unwrapped {
-            end: UnwrapEnd::Stopped {
-                end: end_at(Role::Recv, &Some(why)),
-            },
+            end: end_at(Role::Recv, &Some(why)),
             disk,
         },
     }
 }
 
 // Over the row of the session.
-fn unwrap_row<S: Shelf, O: Sink>(row: &SessionRow, shelf: &mut S, out: &mut O) -> UnwrapEnd
+fn unwrap_row<S: Shelf, O: Sink>(row: &SessionRow, shelf: &mut S, out: &mut O) -> CommandEnd
     requires lawful { IsLawfulRow row.now }
     ensures unwraps { S.told.tells → S.Disk.told.tells
         → UnwrapsFrom row.now (reading_at (S.told.disk shelf.old) row.now.id roles.Recv) (O.written out.old)
         (O.written out.new) result }
     ensures alike { S.told.tells → S.Disk.told.tells → ReadsAlike (S.told.disk shelf.old) (S.told.disk shelf.new) }
     ensures back { S.told.tells → AllAreBack (S.told.disk shelf.old) (S.told.disk shelf.new) }
-    ensures device { (role : DiskRole) → result ≡ Stopped (ends.Failed role)
-        → RecvFailsAt S.told S.Disk.told shelf.old shelf.new row.now.id role }
-    ensures status { IsUnwrapStatus (unwrap_status result) }
-    ensures unread { result ≡ Stopped ends.Unread → ⊥ }
-    ensures unwritten { result ≡ Stopped ends.Unwritten → Rose (O.faults out.old) (O.faults out.new) }
+    ensures cause { HasEndCause IsUnwrapEnd (RecvFailsAt S.told S.Disk.told shelf.old shelf.new row.now.id) ⊥
+        (Rose (O.faults out.old) (O.faults out.new)) result }
 {
     if row.message < 9 {
-        return UnwrapEnd::Stopped {
-            end: CommandEnd::NoRow(NoRow::Short { session: row.id }),
-        };
+        return CommandEnd::NoRow(NoRow::Short { session: row.id });
     }
     let disk = match take_disk(shelf, row.id, Role::Recv) {
         Ok(disk) => disk,
-        Err(not_taken) => {
-            return UnwrapEnd::Stopped {
-                end: untaken(not_taken),
-            };
-        }
+        Err(not_taken) => return untaken(not_taken),
     };
     let unwrapped = unwrap_on(row, disk, out);
     put_disk_back(shelf, row.id, Role::Recv, unwrapped.disk);
@@ -151,19 +109,16 @@ pub fn unwrap_session<S: Shelf, O: Sink>(
     session: u32,
     shelf: &mut S,
     out: &mut O,
-) -> UnwrapEnd
+) -> CommandEnd
     ensures unwraps { S.told.tells → S.Disk.told.tells
         → Unwraps (S.told.file shelf.old table.now) (S.told.disk shelf.old) (S.told.disk shelf.new)
         (RecvFailsAt S.told S.Disk.told shelf.old shelf.new) session (O.written out.old) (O.written out.new) result }
     ensures back { S.told.tells → AllAreBack (S.told.disk shelf.old) (S.told.disk shelf.new) }
-    ensures device { (role : DiskRole) → result ≡ Stopped (ends.Failed role)
-        → RecvFailsAt S.told S.Disk.told shelf.old shelf.new session role }
-    ensures read { result ≡ Stopped ends.Unread → Rose (S.told.faults shelf.old) (S.told.faults shelf.new) }
-    ensures unwritten { result ≡ Stopped ends.Unwritten → Rose (O.faults out.old) (O.faults out.new) }
-    ensures status { IsUnwrapStatus (unwrap_status result) }
+    ensures cause { HasEndCause IsUnwrapEnd (RecvFailsAt S.told S.Disk.told shelf.old shelf.new session)
+        (Rose (S.told.faults shelf.old) (S.told.faults shelf.new)) (Rose (O.faults out.old) (O.faults out.new)) result }
 {
     match row_in_file(alloc, shelf, table.as_str(), session) {
         Ok(row) => unwrap_row(&row, shelf, out),
-        Err(end) => UnwrapEnd::Stopped { end },
+        Err(end) => end,
     }
 }

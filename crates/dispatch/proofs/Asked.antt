@@ -19,12 +19,8 @@ use Rattle.commands.specs.Migrating.{Migrates}
 use Rattle.commands.specs.ReadDisks.{disk_file}
 use Rattle.commands.specs.Showing.{Shows}
 use Rattle.commands.specs.Telling.{TellsStatus}
-use Rattle.commands.specs.Unwrapping.{EndsUnwrap, Unwraps, unwrap_status}
-use Rattle.commands.specs.declared.unwrap.UnwrapEnd.{UnwrapEnd}
-use Rattle.commands.specs.declared.unwrap.UnwrapEnd.TheVariants.{Stopped}
-use Rattle.commands.specs.Wrapping.{EndsWrap, WrapsAll, WritesSend, send_status}
-use Rattle.commands.specs.declared.wrap.SendEnd.{SendEnd}
-use Rattle.commands.specs.declared.wrap.SendEnd.TheVariants.{Stopped as SentStop}
+use Rattle.commands.specs.Unwrapping.{EndsUnwrap, Unwraps}
+use Rattle.commands.specs.Wrapping.{WrapsAll}
 use Rattle.commands.proofs.Wrapped.{nothing_given}
 use Rattle.script_replay.specs.Shelves.{Places}
 use Rattle.command_ends.specs.declared.command_end.CommandEnd.{CommandEnd}
@@ -96,15 +92,15 @@ unwrapped_table_is t u n m e = cc
 unwrapped_session_is : (t u : List ℕ) (n m : ℕ) → Unwrap t n ≡ Unwrap u m → n ≡ m
 unwrapped_session_is t u n m e = cc
 
-pub unwraps_asked : (file : List ℕ → Option (List ℕ)) (before after : Places) (fails : ℕ → Role → Type 0) (old new : Option (List ℕ)) (t u : List ℕ) (n m : ℕ) (end : UnwrapEnd) (status : ℕ)
-    → Unwraps (file t) before after fails n old new end → status ≡ unwrap_status end → (b : Command) → b ≡ Unwrap t n → b ≡ Unwrap u m
+pub unwraps_asked : (file : List ℕ → Option (List ℕ)) (before after : Places) (fails : ℕ → Role → Type 0) (old new : Option (List ℕ)) (t u : List ℕ) (n m : ℕ) (end : CommandEnd) (status : ℕ)
+    → Unwraps (file t) before after fails n old new end → status ≡ end_status end → (b : Command) → b ≡ Unwrap t n → b ≡ Unwrap u m
     → EndsUnwrap (file u) before after fails m old new status
 unwraps_asked file before after fails old new t u n m end status ends is b one other =
     let same = sym one ∙ other in
     (end, sym is, subst (λ (p : List ℕ × ℕ). Unwraps (file p.0) before after fails p.1 old new end) (λ i. (unwrapped_table_is t u n m same i, unwrapped_session_is t u n m same i)) ends)
 
 pub unwraps_nothing : (file : Option (List ℕ)) (places : Places) (fails : ℕ → Role → Type 0) (old new : Option (List ℕ)) (session : ℕ) → Appends old new [] → EndsUnwrap file places places fails session old new 1
-unwraps_nothing file places fails old new session a = (Stopped ends.Memory, refl, ((λ name. refl), tt, inl (ends.Memory, tt, refl, a)))
+unwraps_nothing file places fails old new session a = (ends.Memory, refl, ((λ name. refl), tt, inl (tt, a)))
 
 wrapped_table_is : (t u : List ℕ) (n m : ℕ) → Wrap t n ≡ Wrap u m → t ≡ u
 wrapped_table_is t u n m e = cc
@@ -112,18 +108,18 @@ wrapped_table_is t u n m e = cc
 wrapped_session_is : (t u : List ℕ) (n m : ℕ) → Wrap t n ≡ Wrap u m → n ≡ m
 wrapped_session_is t u n m e = cc
 
-pub wraps_asked : (faults now_faults : ℕ) (file : List ℕ → Option (List ℕ)) (before after : Places) (fails : ℕ → Role → Type 0) (left now_left old new : Option (List ℕ)) (t u : List ℕ) (n m : ℕ) (end : SendEnd) (status : ℕ)
-    → WritesSend (WrapsAll faults now_faults (file t) before after fails n left now_left) n old new end → status ≡ send_status end → (b : Command) → b ≡ Wrap t n → b ≡ Wrap u m
-    → EndsWrap faults now_faults (file u) before after fails m left now_left old new status
+pub wraps_asked : (faults now_faults : ℕ) (file : List ℕ → Option (List ℕ)) (before after : Places) (fails : ℕ → Role → Type 0) (left now_left old new : Option (List ℕ)) (t u : List ℕ) (n m : ℕ) (end : CommandEnd) (status : ℕ)
+    → EndsSo (WrapsAll faults now_faults (file t) before after fails n left now_left) old new end → status ≡ end_status end → (b : Command) → b ≡ Wrap t n → b ≡ Wrap u m
+    → EndsWithStatus (WrapsAll faults now_faults (file u) before after fails m left now_left) old new status
 wraps_asked faults now_faults file before after fails left now_left old new t u n m end status ends is b one other =
     let same = sym one ∙ other in (
       end,
       sym is,
-      subst (λ (p : List ℕ × ℕ). WritesSend (WrapsAll faults now_faults (file p.0) before after fails p.1 left now_left) p.1 old new end) (λ i. (wrapped_table_is t u n m same i, wrapped_session_is t u n m same i)) ends,
+      subst (λ (p : List ℕ × ℕ). EndsSo (WrapsAll faults now_faults (file p.0) before after fails p.1 left now_left) old new end) (λ i. (wrapped_table_is t u n m same i, wrapped_session_is t u n m same i)) ends,
     )
 
-pub wraps_nothing : (faults : ℕ) (file : Option (List ℕ)) (places : Places) (fails : ℕ → Role → Type 0) (left old new : Option (List ℕ)) (session : ℕ) → Appends old new [] → EndsWrap faults faults file places places fails session left left old new 1
-wraps_nothing faults file places fails left old new session a = (SentStop ends.Memory, refl, ((inl (ends.Memory, (tt, λ e. cc), refl, refl), nothing_given left, tt), a))
+pub wraps_nothing : (faults : ℕ) (file : Option (List ℕ)) (places : Places) (fails : ℕ → Role → Type 0) (left old new : Option (List ℕ)) (session : ℕ) → Appends old new [] → EndsWithStatus (WrapsAll faults faults file places places fails session left left) old new 1
+wraps_nothing faults file places fails left old new session a = (ends.Memory, refl, ([], (inl ((tt, λ e. cc), refl), nothing_given left, tt, refl), a))
 
 printed_table_is : (t u : List ℕ) (n m k l : ℕ) → Messages t n k ≡ Messages u m l → t ≡ u
 printed_table_is t u n m k l e = cc

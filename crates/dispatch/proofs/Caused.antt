@@ -1,15 +1,11 @@
 -- What a status of a command tells of its causes.
-use Rattle.std.proofs.Common.{◌≡◌, ◌⊎◌, ℕ, ◌≤◌, false, nat_eq, zero, suc, List, [], Option, inl, inr, refl, sym, ap, ◌∙◌, subst, arith}
+use Rattle.std.proofs.Common.{◌≡◌, ◌⊎◌, ℕ, ◌≤◌, false, nat_eq, zero, suc, List, [], Option, inl, inr, refl, sym, ◌∙◌, subst, arith}
 use Rattle.std.specs.Io.KnownBytes.{Appends}
-use Rattle.command_ends.specs.CommandEnds.{TellsWords, end_status}
-use Rattle.commands.specs.Unwrapping.{IsUnwrapStatus, unwrap_status}
-use Rattle.commands.specs.Wrapping.{IsSendStatus, send_status}
+use Rattle.command_ends.specs.Causes.{HasEndCause}
+use Rattle.command_ends.specs.CommandEnds.{IsSessionEnd, IsUnwrapEnd, IsWrapEnd, TellsWords, end_status}
+use Rattle.command_ends.proofs.CommandEnds.{session_status}
 use Rattle.command_ends.specs.declared.command_end.CommandEnd.{CommandEnd}
 use Rattle.command_ends.specs.declared.command_end.CommandEnd.TheVariants as ends
-use Rattle.commands.specs.declared.unwrap.UnwrapEnd.{UnwrapEnd}
-use Rattle.commands.specs.declared.unwrap.UnwrapEnd.TheVariants as unwraps
-use Rattle.commands.specs.declared.wrap.SendEnd.{SendEnd}
-use Rattle.commands.specs.declared.wrap.SendEnd.TheVariants as sends
 use Rattle.disk_model.specs.declared.name.Role.{Role}
 use Rattle.dispatch.specs.Racing.{EndsRace}
 use Rattle.dispatch.proofs.Asked.{is_not}
@@ -46,49 +42,41 @@ causes Wants Disk Read Write status number is cause = record {
   disk = λ e. subst (λ n. Cause Wants Disk Read Write n) (sym is ∙ e) cause;
 }
 
-end_cause : (Disk Read Write : Type 0) (end : CommandEnd) → ((role : Role) → end ≡ ends.Failed role → Disk) → (end ≡ ends.Unread → Read) → (end ≡ ends.Unwritten → Write)
+-- ---- of a command over the disks of a session ----
+
+-- no folder failed, nor a name in one
+abbrev pub IsNoFolder : CommandEnd → Type 0
+IsNoFolder ends.Folder = ⊥
+IsNoFolder (ends.NameTaken number) = ⊥
+IsNoFolder end = Unit {0}
+
+pub session_no_folder : (end : CommandEnd) → IsSessionEnd end → IsNoFolder end
+session_no_folder ends.Folder only = only
+session_no_folder (ends.NameTaken number) only = only
+session_no_folder end only = tt
+
+pub unwrap_no_folder : (end : CommandEnd) → IsUnwrapEnd end → IsNoFolder end
+unwrap_no_folder ends.Folder only = only
+unwrap_no_folder (ends.NameTaken number) only = only
+unwrap_no_folder end only = tt
+
+pub wrap_no_folder : (end : CommandEnd) → IsWrapEnd end → IsNoFolder end
+wrap_no_folder ends.Folder only = only
+wrap_no_folder (ends.NameTaken number) only = only
+wrap_no_folder end only = tt
+
+end_cause : (Ends : CommandEnd → Type 0) (Device : Role → Type 0) (Disk Read Write : Type 0) (end : CommandEnd) → HasEndCause Ends Device Read Write end → IsNoFolder end → ((role : Role) → Device role → Disk)
     → Cause Unit Disk Read Write (end_status end)
-end_cause Disk Read Write ends.Done disk read write = tt
-end_cause Disk Read Write ends.Memory disk read write = tt
-end_cause Disk Read Write ends.Unread disk read write = read refl
-end_cause Disk Read Write ends.Unwritten disk read write = write refl
-end_cause Disk Read Write (ends.BadLine line) disk read write = tt
-end_cause Disk Read Write (ends.NoRow why) disk read write = tt
-end_cause Disk Read Write (ends.Failed role) disk read write = disk role refl
-end_cause Disk Read Write (ends.Refused role why) disk read write = tt
-end_cause Disk Read Write ends.Unconnected disk read write = tt
-end_cause Disk Read Write (ends.Ahead number count) disk read write = tt
-end_cause Disk Read Write (ends.Full end length size) disk read write = tt
-end_cause Disk Read Write (ends.Denied code number) disk read write = tt
-end_cause Disk Read Write (ends.Unfinished number) disk read write = tt
+end_cause Ends Device Disk Read Write ends.Unread c only disk = c.read refl
+end_cause Ends Device Disk Read Write ends.Unwritten c only disk = c.unwritten refl
+end_cause Ends Device Disk Read Write (ends.Failed role) c only disk = disk role (c.device role refl)
+end_cause Ends Device Disk Read Write ends.Folder c only disk = absurd only
+end_cause Ends Device Disk Read Write (ends.NameTaken number) c only disk = absurd only
+end_cause Ends Device Disk Read Write end c only disk = tt
 
-pub end_causes : (Disk Read Write : Type 0) (end : CommandEnd) (status : ℕ) → status ≡ end_status end
-    → ((role : Role) → end ≡ ends.Failed role → Disk) → (end ≡ ends.Unread → Read) → (end ≡ ends.Unwritten → Write) → Causes Unit Disk Read Write status
-end_causes Disk Read Write end status is disk read write = causes Unit Disk Read Write status (end_status end) is (end_cause Disk Read Write end disk read write)
-
-unwrap_cause : (Disk Read Write : Type 0) (end : UnwrapEnd) → ((role : Role) → end ≡ unwraps.Stopped (ends.Failed role) → Disk) → (end ≡ unwraps.Stopped ends.Unread → Read) → (end ≡ unwraps.Stopped ends.Unwritten → Write)
-    → Cause Unit Disk Read Write (unwrap_status end)
-unwrap_cause Disk Read Write unwraps.Whole disk read write = tt
-unwrap_cause Disk Read Write (unwraps.NotWrapped number) disk read write = tt
-unwrap_cause Disk Read Write unwraps.Unfinished disk read write = tt
-unwrap_cause Disk Read Write (unwraps.Stopped end) disk read write =
-    end_cause Disk Read Write end (λ role e. disk role (ap (λ x. unwraps.Stopped x) e)) (λ e. read (ap (λ x. unwraps.Stopped x) e)) (λ e. write (ap (λ x. unwraps.Stopped x) e))
-
-pub unwrap_causes : (Disk Read Write : Type 0) (end : UnwrapEnd) (status : ℕ) → status ≡ unwrap_status end
-    → ((role : Role) → end ≡ unwraps.Stopped (ends.Failed role) → Disk) → (end ≡ unwraps.Stopped ends.Unread → Read) → (end ≡ unwraps.Stopped ends.Unwritten → Write) → Causes Unit Disk Read Write status
-unwrap_causes Disk Read Write end status is disk read write = causes Unit Disk Read Write status (unwrap_status end) is (unwrap_cause Disk Read Write end disk read write)
-
-send_cause : (Disk Read Write : Type 0) (end : SendEnd) → ((role : Role) → end ≡ sends.Stopped (ends.Failed role) → Disk) → (end ≡ sends.Stopped ends.Unread → Read) → (end ≡ sends.Stopped ends.Unwritten → Write)
-    → Cause Unit Disk Read Write (send_status end)
-send_cause Disk Read Write (sends.Sent bytes messages) disk read write = tt
-send_cause Disk Read Write (sends.Differs number) disk read write = tt
-send_cause Disk Read Write sends.TooLong disk read write = tt
-send_cause Disk Read Write (sends.Stopped end) disk read write =
-    end_cause Disk Read Write end (λ role e. disk role (ap (λ x. sends.Stopped x) e)) (λ e. read (ap (λ x. sends.Stopped x) e)) (λ e. write (ap (λ x. sends.Stopped x) e))
-
-pub send_causes : (Disk Read Write : Type 0) (end : SendEnd) (status : ℕ) → status ≡ send_status end
-    → ((role : Role) → end ≡ sends.Stopped (ends.Failed role) → Disk) → (end ≡ sends.Stopped ends.Unread → Read) → (end ≡ sends.Stopped ends.Unwritten → Write) → Causes Unit Disk Read Write status
-send_causes Disk Read Write end status is disk read write = causes Unit Disk Read Write status (send_status end) is (send_cause Disk Read Write end disk read write)
+pub end_causes : (Ends : CommandEnd → Type 0) (Device : Role → Type 0) (Disk Read Write : Type 0) (end : CommandEnd) (status : ℕ) → status ≡ end_status end → HasEndCause Ends Device Read Write end → IsNoFolder end
+    → ((role : Role) → Device role → Disk) → Causes Unit Disk Read Write status
+end_causes Ends Device Disk Read Write end status is c only disk = causes Unit Disk Read Write status (end_status end) is (end_cause Ends Device Disk Read Write end c only disk)
 
 chain_cause : (Wants Disk Read Write : Type 0) (end : Ended) → (end ≡ chains.Memory → Wants) → (end ≡ chains.Stopped faults.Words → ⊥)
     → ((session : ℕ) (role : Role) → end ≡ chains.Stopped (faults.Device session role) → Disk) → (end ≡ chains.Stopped faults.Read → Read) → (end ≡ chains.Write → Write)
@@ -143,19 +131,40 @@ compare_not status k (inr (inr (inr (inr (inr e))))) no0 no1 no3 no4 no5 no16 = 
 abbrev pub IsStatus : ℕ → Type 0
 IsStatus status = (status ≤ 8) ⊎ ((status ≡ 10) ⊎ ((13 ≤ status) × (status ≤ 16)))
 
-pub end_in : (status number : ℕ) → status ≡ number → number ≤ 8 → IsStatus status
-end_in status number is small = inl (omega arith)
+pub end_in : (status : ℕ) (end : CommandEnd) → status ≡ end_status end → IsSessionEnd end → IsStatus status
+end_in status end is only = let small = session_status end only in inl (omega (arith, is, small))
 
-pub unwrap_in : (status number : ℕ) → status ≡ number → IsUnwrapStatus number → IsStatus status
-unwrap_in status number is (inl small) = inl (omega arith)
-unwrap_in status number is (inr (inl e)) = inr (inr (omega arith, omega arith))
-unwrap_in status number is (inr (inr e)) = inr (inr (omega arith, omega arith))
+unwrap_status : (end : CommandEnd) → IsUnwrapEnd end → IsStatus (end_status end)
+unwrap_status (ends.NotWrapped number) only = inr (inr (omega arith, omega arith))
+unwrap_status ends.PartOfFile only = inr (inr (omega arith, omega arith))
+unwrap_status ends.Done only = inl (omega arith)
+unwrap_status ends.Memory only = inl (omega arith)
+unwrap_status ends.Unread only = inl (omega arith)
+unwrap_status ends.Unwritten only = inl (omega arith)
+unwrap_status (ends.NoRow why) only = inl (omega arith)
+unwrap_status (ends.Failed role) only = inl (omega arith)
+unwrap_status (ends.Refused role why) only = inl (omega arith)
+unwrap_status end only = absurd only
 
-pub send_in : (status number : ℕ) → status ≡ number → IsSendStatus number → IsStatus status
-send_in status number is (inl small) = inl (omega arith)
-send_in status number is (inr (inl e)) = inr (inl (omega arith))
-send_in status number is (inr (inr (inl e))) = inr (inr (omega arith, omega arith))
-send_in status number is (inr (inr (inr e))) = inr (inr (omega arith, omega arith))
+pub unwrap_in : (status : ℕ) (end : CommandEnd) → status ≡ end_status end → IsUnwrapEnd end → IsStatus status
+unwrap_in status end is only = subst IsStatus (sym is) (unwrap_status end only)
+
+wrap_status : (end : CommandEnd) → IsWrapEnd end → IsStatus (end_status end)
+wrap_status (ends.Wrapped bytes messages) only = inl (omega arith)
+wrap_status (ends.FileDiffers number) only = inr (inr (omega arith, omega arith))
+wrap_status ends.TooLong only = inr (inr (omega arith, omega arith))
+wrap_status (ends.BadLine line) only = inl (omega arith)
+wrap_status (ends.Full end length size) only = inr (inl refl)
+wrap_status ends.Memory only = inl (omega arith)
+wrap_status ends.Unread only = inl (omega arith)
+wrap_status ends.Unwritten only = inl (omega arith)
+wrap_status (ends.NoRow why) only = inl (omega arith)
+wrap_status (ends.Failed role) only = inl (omega arith)
+wrap_status (ends.Refused role why) only = inl (omega arith)
+wrap_status end only = absurd only
+
+pub wrap_in : (status : ℕ) (end : CommandEnd) → status ≡ end_status end → IsWrapEnd end → IsStatus status
+wrap_in status end is only = subst IsStatus (sym is) (wrap_status end only)
 
 pub replay_in : (status : ℕ) → (status ≤ 8) ⊎ (status ≡ 10) → IsStatus status
 replay_in status (inl small) = inl small

@@ -9,7 +9,7 @@ use Rattle.pump_frame.specs.declared.row.SessionRow.{SessionRow}
 use Rattle.command_ends.specs.CommandEnds.{end_status, end_line, Closes, NamesFailed}
 use Rattle.command_ends.specs.Tables.{IsTableEnd}
 use Rattle.command_ends.specs.declared.command_end.CommandEnd.{CommandEnd}
-use Rattle.command_ends.specs.declared.command_end.CommandEnd.TheVariants.{Memory, Unread, NoRow, Failed, Unconnected, Unwritten}
+use Rattle.command_ends.specs.declared.command_end.CommandEnd.TheVariants.{Memory, Unread, NoRow, Failed, Unconnected, Unwritten, Folder, NameTaken}
 use Rattle.command_ends.specs.Causes.{Causes, IsCaused, HasStatusCause}
 
 -- ---- an end ----
@@ -22,7 +22,7 @@ caused c d Unread memory read unwritten device link is = read is
 caused c d Unwritten memory read unwritten device link is = unwritten is
 caused c d (Failed role) memory read unwritten device link is = device role is
 caused c d Unconnected memory read unwritten device link is = link is
-caused c d end memory read unwritten device link is = tt
+caused c d end memory read unwritten device link is = is
 
 pub caused_named : (c : Causes) (fails : ℕ → Role → Type 0) (session : ℕ) (end : CommandEnd) → ((role : Role) → c.device role → fails session role) → IsCaused c end → NamesFailed fails session end
 caused_named c fails session (Failed role) device is = device role is
@@ -48,9 +48,11 @@ unwritten_alone : (end : CommandEnd) → end_status end ≡ 4 → end ≡ Unwrit
 unwritten_alone Unwritten e = refl
 unwritten_alone other e = absurd (omega (arith, e))
 
-device_alone : (end : CommandEnd) → end_status end ≡ 7 → (role : Role) × (end ≡ Failed role)
-device_alone (Failed role) e = (role, refl)
-device_alone other e = absurd (omega (arith, e))
+device_alone : (c : Causes) (end : CommandEnd) → IsCaused c end → end_status end ≡ 7 → (role : Role) × (end ≡ Failed role)
+device_alone c (Failed role) is e = (role, refl)
+device_alone c Folder is e = absurd is
+device_alone c (NameTaken number) is e = absurd is
+device_alone c other is e = absurd (omega (arith, e))
 
 link_alone : (end : CommandEnd) → end_status end ≡ 9 → end ≡ Unconnected
 link_alone Unconnected e = refl
@@ -91,7 +93,7 @@ module _ (old mid new : Option (List ℕ)) (first before now session status : �
         | inl same ↦ (let rose = unwritten (subst (IsCaused c) (unwritten_alone end (sym same ∙ is)) is_caused) in omega (arith, rose, high))
         | inr failed ↦ (let rose = failed.1 in omega (arith, low, rose))
       ];
-      device = λ is. let named = device_alone end (its_own 7 (λ e. omega (arith, e)) is) in (named.0, device named.0 (subst (IsCaused c) named.1 is_caused));
+      device = λ is. let named = device_alone c end is_caused (its_own 7 (λ e. omega (arith, e)) is) in (named.0, device named.0 (subst (IsCaused c) named.1 is_caused));
       link = λ is. link (subst (IsCaused c) (link_alone end (its_own 9 (λ e. omega (arith, e)) is)) is_caused);
     }
 

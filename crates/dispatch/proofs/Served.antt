@@ -21,7 +21,6 @@ use Rattle.serving.specs.Doors.{DoorsTell, WantDoor}
 use Rattle.serving.specs.declared.keys.KeyFault.{KeyFault}
 use Rattle.serving.specs.declared.keys.KeyFault.TheVariants as key_faults
 use Rattle.serving.specs.Sessions.{IfEnded, OpensBy, RoseAt, has_run}
-use Rattle.serving.specs.declared.doors.WorkersEnd.{WorkersEnd}
 use Rattle.serving.specs.declared.session.SessionEnd.{SessionEnd}
 use Rattle.serving.specs.declared.session.SessionEnd.TheVariants as session_ends
 use Rattle.command_ends.specs.CommandEnds.{NamesFailed}
@@ -47,33 +46,33 @@ module _ {S : Type 0} (m : Meaning S) (low high now_low now_high : S) (c : Cause
   -- ---- the session ----
 
   session_caused : (row : SessionRow) (end : SessionEnd) → OpensBy m row low high now_low now_high end
-      → IfEnded end (λ ends. CountsEnd (Some ends.low) (m.count low) (m.count now_low)) → IfEnded end (λ ends. CountsEnd (Some ends.high) (m.count high) (m.count now_high))
-      → IfEnded end (λ ends. is_kept_by (Some ends.low) ≡ false → c.unwritten) → (has_run end ≡ false → c.memory) → (end ≡ session_ends.NoDoor → c.link) → IsCaused c (end_of_session end)
+      → IfEnded end (λ l h. CountsEnd (Some l) (m.count low) (m.count now_low)) → IfEnded end (λ l h. CountsEnd (Some h) (m.count high) (m.count now_high))
+      → IfEnded end (λ l h. is_kept_by (Some l) ≡ false → c.unwritten) → (has_run end ≡ false → c.memory) → (end ≡ session_ends.NoDoor → c.link) → IsCaused c (end_of_session end)
   session_caused row session_ends.Memory opens cl ch unwritten memory link = memory refl
   session_caused row (session_ends.Refused role why) opens cl ch unwritten memory link = refused_caused c role why (λ is. device role (opens.0 is))
   session_caused row session_ends.NoDoor opens cl ch unwritten memory link = link refl
   session_caused row session_ends.NoThread opens cl ch unwritten memory link = memory refl
-  session_caused row (session_ends.Ended ends) opens cl ch unwritten memory link = workers_caused ends.low ends.high cl ch unwritten
+  session_caused row (session_ends.Ended l h) opens cl ch unwritten memory link = workers_caused l h cl ch unwritten
 
   pub served_caused : (row : SessionRow) (end : SessionEnd) (result : CommandEnd) → result ≡ end_of_session end → OpensBy m row low high now_low now_high end
-      → IfEnded end (λ ends. CountsEnd (Some ends.low) (m.count low) (m.count now_low)) → IfEnded end (λ ends. CountsEnd (Some ends.high) (m.count high) (m.count now_high))
-      → IfEnded end (λ ends. is_kept_by (Some ends.low) ≡ false → c.unwritten) → (has_run end ≡ false → c.memory) → (end ≡ session_ends.NoDoor → c.link) → IsCaused c result
+      → IfEnded end (λ l h. CountsEnd (Some l) (m.count low) (m.count now_low)) → IfEnded end (λ l h. CountsEnd (Some h) (m.count high) (m.count now_high))
+      → IfEnded end (λ l h. is_kept_by (Some l) ≡ false → c.unwritten) → (has_run end ≡ false → c.memory) → (end ≡ session_ends.NoDoor → c.link) → IsCaused c result
   served_caused row end result is opens cl ch unwritten memory link = subst (IsCaused c) (sym is) (session_caused row end opens cl ch unwritten memory link)
 
 -- what holds where the workers ran, and where they did not
-pub either_way : (end : SessionEnd) (R : Type 0) (P : WorkersEnd → Type 0) → IfEnded end P → ((ends : WorkersEnd) → P ends → R) → (has_run end ≡ false → R) → R
+pub either_way : (end : SessionEnd) (R : Type 0) (P : RoundsEnd → RoundsEnd → Type 0) → IfEnded end P → ((l h : RoundsEnd) → P l h → R) → (has_run end ≡ false → R) → R
 either_way session_ends.Memory R P h f g = g refl
 either_way (session_ends.Refused role why) R P h f g = g refl
 either_way session_ends.NoDoor R P h f g = g refl
 either_way session_ends.NoThread R P h f g = g refl
-either_way (session_ends.Ended ends) R P h f g = f ends h
+either_way (session_ends.Ended l h) R P held f g = f l h held
 
-pub if_ended : (end : SessionEnd) (P Q : WorkersEnd → Type 0) → IfEnded end P → ((ends : WorkersEnd) → P ends → Q ends) → IfEnded end Q
+pub if_ended : (end : SessionEnd) (P Q : RoundsEnd → RoundsEnd → Type 0) → IfEnded end P → ((l h : RoundsEnd) → P l h → Q l h) → IfEnded end Q
 if_ended session_ends.Memory P Q h f = tt
 if_ended (session_ends.Refused role why) P Q h f = tt
 if_ended session_ends.NoDoor P Q h f = tt
 if_ended session_ends.NoThread P Q h f = tt
-if_ended (session_ends.Ended ends) P Q h f = f ends h
+if_ended (session_ends.Ended l h) P Q held f = f l h held
 
 -- ---- a door that was wanting ----
 

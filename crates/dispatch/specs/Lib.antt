@@ -1,7 +1,6 @@
 pub mod Appendings
 pub mod Chains
 pub mod Commands
-pub mod LiveEnds
 pub mod Racing
 pub mod Receptions
 pub mod Sendings

@@ -39,7 +39,7 @@ end_of_session session_ends.Memory = Memory
 end_of_session (session_ends.Refused role why) = end_at role (Some why)
 end_of_session session_ends.NoDoor = Unconnected
 end_of_session session_ends.NoThread = Memory
-end_of_session (session_ends.Ended ends) = end_of_workers ends.low ends.high
+end_of_session (session_ends.Ended low high) = end_of_workers low high
 
 -- a disk of the session could not be taken off the shelf
 abbrev pub StopsAtShelf : CommandEnd → Type 0
@@ -132,8 +132,8 @@ module _ {D L S : Type 0} (t : DoorsTell D L) (rounds : ℕ) (low_side high_side
     pub high_found : d.tells → d.meaning.reading high ≡ reading_at d.before row.id roles.High
     pub high_left : d.tells → d.meaning.reading now_high ≡ reading_at d.after row.id roles.High
     -- the two workers
-    pub workers : IfEnded end (λ ends. BothServed t d.meaning row rounds key low_side high_side written now_written
-        out_faults now_out_faults low high now_low now_high ends)
+    pub workers : IfEnded end (λ how_low how_high. BothServed t d.meaning row rounds key low_side high_side written
+        now_written out_faults now_out_faults low high now_low now_high how_low how_high)
     -- the other ends, by their causes, and what they leave
     pub opens : OpensBy d.meaning row low high now_low now_high end
     pub wanting : end ≡ session_ends.NoDoor → WantDoor low_side.ports high_side.ports row.low_port row.high_port

@@ -6,7 +6,7 @@ ghost use Rattle.pump_frame.specs.Counts.{Rose};
 ghost use Rattle.peers.specs.Appending.{link_tells};
 ghost use Rattle.command_ends.specs.Causes.{HasStatusCause};
 ghost use Rattle.dispatch.specs.Appendings.{end_of_appender, AppendsFor, AppendComes};
-ghost use Rattle.dispatch.specs.LiveEnds.{EndsLive};
+ghost use Rattle.command_ends.specs.CommandEnds.{EndsLive};
 
 use command_ends::{CommandEnd, finish, row_in_file};
 use command_line::TableName;

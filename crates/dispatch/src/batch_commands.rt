@@ -24,7 +24,7 @@ ghost use Rattle.commands.specs.ReadDisks.{disk_file};
 ghost use Rattle.commands.specs.Showing.{Shows};
 ghost use Rattle.commands.specs.Telling.{TellsStatus};
 ghost use Rattle.commands.specs.Unwrapping.{EndsUnwrap};
-ghost use Rattle.commands.specs.Wrapping.{EndsWrap};
+ghost use Rattle.commands.specs.Wrapping.{WrapsAll};
 ghost use Rattle.disk_model.specs.declared.name.Role.TheVariants.{Recv};
 ghost use Rattle.dispatch.specs.Chains.{EndsChainWith};
 
@@ -169,9 +169,9 @@ pub fn batch<S: Shelf, I: Source, O: Sink>(
         result }
     ensures wrap { (table : List ℕ) (session : ℕ)
         → AreWordsOf (map string_bytes words.now.items) (commands.Wrap table session) → S.told.tells → S.Disk.told.tells
-        → EndsWrap (S.told.faults shelf.old) (S.told.faults shelf.new) (S.told.file shelf.old table)
+        → EndsWithStatus (WrapsAll (S.told.faults shelf.old) (S.told.faults shelf.new) (S.told.file shelf.old table)
         (S.told.disk shelf.old) (S.told.disk shelf.new) (FailsAt S.told S.Disk.told shelf.old shelf.new) session
-        (I.left script.old) (I.left script.new) (O.written out.old) (O.written out.new) result }
+        (I.left script.old) (I.left script.new)) (O.written out.old) (O.written out.new) result }
     ensures unwrap { (table : List ℕ) (session : ℕ)
         → AreWordsOf (map string_bytes words.now.items) (commands.Unwrap table session) → S.told.tells
         → S.Disk.told.tells

@@ -8,7 +8,7 @@ ghost use Rattle.command_line.specs.declared.command.Command.TheVariants as comm
 ghost use Rattle.command_line.specs.TimeLists.{AreTimes};
 ghost use Rattle.pump_frame.specs.Counts.{Rose};
 ghost use Rattle.relay_side.specs.Sides.{side};
-ghost use Rattle.command_ends.specs.CommandEnds.{RefusesWords};
+ghost use Rattle.command_ends.specs.CommandEnds.{EndsLive, RefusesWords};
 ghost use Rattle.commands.specs.LentDisks.{RecvFailsAt};
 ghost use Rattle.script_replay.specs.Failing.{FailsAt};
 ghost use Rattle.script_replay.specs.Shelves.{AllAreBack};
@@ -17,7 +17,6 @@ ghost use Rattle.serving.specs.Doors.{doors, links};
 ghost use Rattle.dispatch.specs.Appendings.{AppendComes};
 ghost use Rattle.dispatch.specs.Commands.{is_live, IsNoLiveCommand, IsAtHigh, IsAtLow, IsOverTable, IsSender, IsServe};
 ghost use Rattle.dispatch.specs.Commands.{IsTimed};
-ghost use Rattle.dispatch.specs.LiveEnds.{EndsLive};
 ghost use Rattle.dispatch.specs.Racing.{IsRecordOf, EndsRace};
 ghost use Rattle.dispatch.specs.Receptions.{ReceiveComes};
 ghost use Rattle.dispatch.specs.Sendings.{SendComes};

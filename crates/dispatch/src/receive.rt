@@ -9,7 +9,7 @@ ghost use Rattle.script_replay.specs.Shelves.{AllAreBack, disk_name, reading_at}
 ghost use Rattle.serving.specs.Doors.{links};
 ghost use Rattle.commands.specs.LentDisks.{LeavesOtherDisks, RecvFailsAt};
 ghost use Rattle.command_ends.specs.Causes.{IsCaused, HasStatusCause};
-ghost use Rattle.dispatch.specs.LiveEnds.{EndsLive};
+ghost use Rattle.command_ends.specs.CommandEnds.{EndsLive};
 ghost use Rattle.dispatch.specs.Receptions.{end_of_receiver, ReceivesFor, ReceiveComes};
 
 use command_ends::{CommandEnd, finish, row_in_file};

@@ -5,7 +5,7 @@ ghost use Rattle.std.specs.Io.KnownBytes.{Appends};
 ghost use Rattle.pump_frame.specs.Counts.{Rose};
 ghost use Rattle.serving.specs.Doors.{links};
 ghost use Rattle.command_ends.specs.Causes.{IsCaused, HasStatusCause};
-ghost use Rattle.dispatch.specs.LiveEnds.{EndsLive};
+ghost use Rattle.command_ends.specs.CommandEnds.{EndsLive};
 ghost use Rattle.dispatch.specs.Sendings.{end_of_sender, SendsFor, SendComes};
 
 use command_ends::{CommandEnd, finish, row_in_file};

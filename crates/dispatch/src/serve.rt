@@ -9,7 +9,7 @@ ghost use Rattle.script_replay.specs.Failing.{FailsAt};
 ghost use Rattle.script_replay.specs.Shelves.{AllAreBack};
 ghost use Rattle.serving.specs.Doors.{doors, links};
 ghost use Rattle.command_ends.specs.Causes.{IsCaused, HasStatusCause};
-ghost use Rattle.dispatch.specs.LiveEnds.{EndsLive};
+ghost use Rattle.command_ends.specs.CommandEnds.{EndsLive};
 ghost use Rattle.commands.specs.LentDisks.{LeavesBut};
 ghost use Rattle.dispatch.specs.Servings.{disks, file, source, end_of_workers, end_of_session, ServesFor};
 ghost use Rattle.dispatch.specs.Servings.{ServeComes};
@@ -22,32 +22,33 @@ use pump_frame::SessionRow;
 use pump_link::{Clock, Ports, Sink, Source};
 use relay_side::RelaySide;
 use relay_threads::{RoundsEnd, Watch};
-use serving::{SessionEnd, WorkersEnd, read_key, serve_session};
+use serving::{SessionEnd, read_key, serve_session};
 use std::alloc::Global;
 use std::sync::Wait;
 use std::thread::Threads;
 
-fn end_of_workers(ends: &WorkersEnd) -> CommandEnd
-    ensures { result ≡ end_of_workers ends.now.low ends.now.high }
+// The record comes first, then the low disk, then the high one.
+fn end_of_workers(low: RoundsEnd, high: RoundsEnd) -> CommandEnd
+    ensures { result ≡ end_of_workers low high }
 {
-    match ends.low {
+    match low {
         RoundsEnd::RecordFailed => CommandEnd::Unwritten,
         RoundsEnd::Device { .. } => CommandEnd::Failed { role: Role::Low },
-        RoundsEnd::Rounds => match ends.high {
+        RoundsEnd::Rounds => match high {
             RoundsEnd::Device { .. } => CommandEnd::Failed { role: Role::High },
             RoundsEnd::Rounds | RoundsEnd::RecordFailed => CommandEnd::Done,
         },
     }
 }
 
-fn end_of_session(end: &SessionEnd) -> CommandEnd
-    ensures { result ≡ end_of_session end.now }
+fn end_of_session(end: SessionEnd) -> CommandEnd
+    ensures { result ≡ end_of_session end }
 {
     match end {
         SessionEnd::Memory | SessionEnd::NoThread => CommandEnd::Memory,
-        SessionEnd::Refused { role, why } => end_at(*role, &Some(*why)),
+        SessionEnd::Refused { role, why } => end_at(role, &Some(why)),
         SessionEnd::NoDoor => CommandEnd::Unconnected,
-        SessionEnd::Ended(ends) => end_of_workers(ends),
+        SessionEnd::Ended { low, high } => end_of_workers(low, high),
     }
 }
 
@@ -106,7 +107,7 @@ where
         rt, alloc, row, disks.low, disks.high, low, high, key, out, watch, rounds,
     );
     put_pair_back(shelf, row.id, served.low, served.high);
-    end_of_session(&served.end)
+    end_of_session(served.end)
 }
 
 /// Serves a session of the table: both workers make so many rounds, each at the door of its own port of the

@@ -5,8 +5,8 @@ mod door_log;
 mod explain;
 
 use adapters::{
-    Access, Counted, FileShelf, KeySource, ShownSource, StdSink, StdSource, TcpPorts, Traffic,
-    machine_side, now, stepping_side,
+    Access, Counted, FileShelf, KeySource, ShownSource, StdSink, StdSource, Traffic, machine_side,
+    now, stepping_side,
 };
 use disk_model::Shelf;
 use dispatch::{batch, live};
@@ -14,7 +14,7 @@ use door_log::DoorLog;
 use explain::{Ending, Passed, Trouble, explain, row};
 use folder_adapters::{FileFolders, FolderNotes, ProgressLine};
 use pump_frame::SessionRow;
-use pump_link::{Clock, Ports, Sink, Source};
+use pump_link::{Ports, Sink, Source};
 use relay_side::RelaySide;
 use relay_threads::Watch;
 use std::alloc::{Alloc, Global};
@@ -94,42 +94,15 @@ impl Came {
     }
 }
 
-/// Runs the command with threads or over a socket that the words are, at these two sides. The answer is its status,
-/// and which side's ports failed, if some did.
-fn run_at<
-    'a,
-    R: Threads + Wait + Sync + Net<Listener = TcpListener, Stream = TcpStream> + Files<File = File>,
-    S: Shelf,
-    K: Clock + Send + Drop,
-    I: Source,
-    O: Sink + Send,
-    V: Watch + Sync,
->(
-    rt: &'a R,
-    alloc: Global,
-    words: &Vec<String>,
-    shelf: &mut S,
-    mut low: RelaySide<TcpPorts<'a, R>, K>,
-    mut high: RelaySide<TcpPorts<'a, R>, K>,
-    script: &mut I,
-    out: &mut O,
-    watch: &V,
-) -> (u8, Option<Trouble>)
-where
-    S::Disk: Send,
-{
-    let mut keys = KeySource::new(rt);
-    let status = live(
-        rt, alloc, words, shelf, &mut low, &mut high, &mut keys, script, out, watch,
-    );
-    let port = if low.ports.faults() > 0 {
+/// The side whose ports failed, if some did.
+fn failed_ports<P: Ports>(low: &P, high: &P) -> Option<Trouble> {
+    if low.faults() > 0 {
         Some(Trouble::LowPort)
-    } else if high.ports.faults() > 0 {
+    } else if high.faults() > 0 {
         Some(Trouble::HighPort)
     } else {
         None
-    };
-    (status, port)
+    }
 }
 
 /// Runs the command with threads or over a socket that the words are.
@@ -157,20 +130,26 @@ where
     S::Disk: Send,
 {
     let (mut at_low, mut at_high) = (Traffic::new(), Traffic::new());
-    let (status, port) = if begin_with(words.as_slice(), "race") {
-        let low = stepping_side(alloc, rt, &mut at_low);
-        let high = stepping_side(alloc, rt, &mut at_high);
-        run_at(rt, alloc, words, shelf, low, high, script, out, watch)
+    let (mut low, mut high) = if begin_with(words.as_slice(), "race") {
+        (
+            stepping_side(alloc, rt, &mut at_low),
+            stepping_side(alloc, rt, &mut at_high),
+        )
     } else {
         let start = now(rt);
-        let low = machine_side(alloc, rt, start, &mut at_low);
-        let high = machine_side(alloc, rt, start, &mut at_high);
-        run_at(rt, alloc, words, shelf, low, high, script, out, watch)
+        (
+            machine_side(alloc, rt, start, &mut at_low),
+            machine_side(alloc, rt, start, &mut at_high),
+        )
     };
+    let mut keys = KeySource::new(rt);
+    let status = live(
+        rt, alloc, words, shelf, &mut low, &mut high, &mut keys, script, out, watch,
+    );
     Came {
         status,
-        trouble: port,
-        has_ended: at_low.has_ended() || at_high.has_ended(),
+        trouble: failed_ports(&low.ports, &high.ports),
+        has_ended: low.ports.traffic().has_ended() || high.ports.traffic().has_ended(),
         lying: 0,
     }
 }

@@ -22,22 +22,21 @@ use Rattle.file_peers.specs.declared.collect.CollectEnd.TheVariants as party
 use Rattle.command_ends.specs.Tables.{StopsAtFile, HasRow}
 use Rattle.command_ends.specs.declared.command_end.CommandEnd.{CommandEnd}
 use Rattle.command_ends.specs.declared.command_end.CommandEnd.TheVariants.{Done, Unwritten, Unconnected, Ahead, NoRow}
+use Rattle.command_ends.specs.declared.command_end.CommandEnd.TheVariants.{Folder, NameTaken, Register}
 use Rattle.command_ends.specs.declared.no_row.NoRow.TheVariants.{Short}
-use Rattle.transfer.specs.declared.ending.TransferEnd.{TransferEnd}
-use Rattle.transfer.specs.declared.ending.TransferEnd.TheVariants.{Command, Folder, NameTaken, Register}
 
 -- how the call ends where High's party ended so
-abbrev pub end_of_collector : CollectEnd → TransferEnd
-end_of_collector party.Ended = Command Done
-end_of_collector party.Looks = Command Done
-end_of_collector party.Write = Command Unwritten
+abbrev pub end_of_collector : CollectEnd → CommandEnd
+end_of_collector party.Ended = Done
+end_of_collector party.Looks = Done
+end_of_collector party.Write = Unwritten
 end_of_collector (party.Folder faults) = Folder
 end_of_collector (party.NameTaken number) = NameTaken number
 end_of_collector (party.Device faults) = Folder
-end_of_collector (party.Ahead number count) = Command (Ahead number count)
+end_of_collector (party.Ahead number count) = Ahead number count
 
 -- .. where no collector opened
-abbrev pub end_of_opening : CollectFault → TransferEnd
+abbrev pub end_of_opening : CollectFault → CommandEnd
 end_of_opening (faults.Folder count) = Folder
 end_of_opening (faults.Register count) = Folder
 end_of_opening faults.Other = Register
@@ -84,17 +83,17 @@ module _ {I D L X : Type 0} (t : LinkTells L) (mi : Placing I) (md : Meaning D) 
         × KeepsCollector mi md start old new x end
 
   -- a lost file could not be told, no link came, or the party worked
-  abbrev pub CollectsOver : SessionRow → Collector I D → Collector I D → TransferEnd → Option (List ℕ) → ℕ → Type 0
+  abbrev pub CollectsOver : SessionRow → Collector I D → Collector I D → CommandEnd → Option (List ℕ) → ℕ → Type 0
   CollectsOver row old new end mid mid_faults =
-      ((end ≡ Command Unwritten) × (new ≡ old) × Grows ports now_ports []
+      ((end ≡ Unwritten) × (new ≡ old) × Grows ports now_ports []
       × AppendsPrefix written mid (lost_line row.id (taken_count old) old.lost))
-      ⊎ (((end ≡ Command Unconnected) × (new ≡ old) × Grows ports now_ports (NoConnection row.high_port ∷ [])
+      ⊎ (((end ≡ Unconnected) × (new ≡ old) × Grows ports now_ports (NoConnection row.high_port ∷ [])
       × Appends written mid (lost_line row.id (taken_count old) old.lost))
       ⊎ ((collected : CollectEnd) × (end ≡ end_of_collector collected)
       × HasCollected row old new collected mid mid_faults))
 
   -- no collector opened in the folder, or one did
-  abbrev pub CollectsIn : SessionRow → I → I → TransferEnd → Option (List ℕ) → ℕ → Type 0
+  abbrev pub CollectsIn : SessionRow → I → I → CommandEnd → Option (List ℕ) → ℕ → Type 0
   CollectsIn row inbox back end mid mid_faults =
       ((fault : CollectFault) × (end ≡ end_of_opening fault) × IsWhyClosed mi md inbox back fault
       × (mi.shown back ≡ mi.shown inbox)
@@ -104,9 +103,9 @@ module _ {I D L X : Type 0} (t : LinkTells L) (mi : Placing I) (md : Meaning D) 
 
   -- the row has too small messages, the folder was not given, or it was and was taken back
   abbrev pub CollectsFor : {O : Type 0} → (List (FoldersStep I O) → Type 0) → (List (FoldersStep I O) → Type 0) → List ℕ
-      → SessionRow → TransferEnd → Option (List ℕ) → ℕ → Type 0
+      → SessionRow → CommandEnd → Option (List ℕ) → ℕ → Type 0
   CollectsFor did now_did folder row end mid mid_faults =
-      ((row.message < 138) × (end ≡ Command (NoRow (Short row.id))) × Grows did now_did [] × Grows ports now_ports []
+      ((row.message < 138) × (end ≡ NoRow (Short row.id)) × Grows did now_did [] × Grows ports now_ports []
       × (mid ≡ written))
       ⊎ (((138 ≤ row.message) × (end ≡ Folder) × Grows did now_did (NoInbox folder row.id ∷ [])
       × Grows ports now_ports [] × (mid ≡ written))
@@ -117,8 +116,8 @@ module _ {I D L X : Type 0} (t : LinkTells L) (mi : Placing I) (md : Meaning D) 
   -- .. over the row of the session, if the table has one; `file` is the table's, and the counts behind it are those
   -- of the files
   abbrev pub CollectComes : {O : Type 0} → (List (FoldersStep I O) → Type 0) → (List (FoldersStep I O) → Type 0)
-      → List ℕ → Option (List ℕ) → ℕ → ℕ → ℕ → TransferEnd → Option (List ℕ) → ℕ → Type 0
+      → List ℕ → Option (List ℕ) → ℕ → ℕ → ℕ → CommandEnd → Option (List ℕ) → ℕ → Type 0
   CollectComes did now_did folder file file_faults now_file_faults session end mid mid_faults =
-      ((stop : CommandEnd) × (end ≡ Command stop) × StopsAtFile file_faults now_file_faults file session stop
-      × Grows did now_did [] × Grows ports now_ports [] × (mid ≡ written))
+      (StopsAtFile file_faults now_file_faults file session end × Grows did now_did [] × Grows ports now_ports []
+      × (mid ≡ written))
       ⊎ ((row : SessionRow) × HasRow file session row × CollectsFor did now_did folder row end mid mid_faults)

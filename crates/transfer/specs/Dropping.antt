@@ -20,26 +20,24 @@ use Rattle.command_ends.specs.Tables.{StopsAtFile, HasRow}
 use Rattle.command_ends.specs.declared.command_end.CommandEnd.{CommandEnd}
 use Rattle.command_ends.specs.declared.command_end.CommandEnd.TheVariants.{Done, Unwritten, Unconnected, NoRow, Denied}
 use Rattle.command_ends.specs.declared.no_row.NoRow.TheVariants.{Short}
-use Rattle.command_ends.specs.declared.command_end.CommandEnd.TheVariants.{Unfinished}
-use Rattle.transfer.specs.declared.ending.TransferEnd.{TransferEnd}
-use Rattle.transfer.specs.declared.ending.TransferEnd.TheVariants.{Command, Folder, Marks, Step, TooLong}
+use Rattle.command_ends.specs.declared.command_end.CommandEnd.TheVariants.{Unfinished, Folder, Marks, Step, TooLong}
 
 -- how the call ends where the dropper failed so; where no number was left, the message with the first number past
 -- all was not sent
-abbrev pub end_of_fault : DropFault → TransferEnd
+abbrev pub end_of_fault : DropFault → CommandEnd
 end_of_fault faults.Folder = Folder
 end_of_fault faults.Marks = Marks
 end_of_fault (faults.Step start accepted) = Step start accepted
 end_of_fault faults.TooLong = TooLong
-end_of_fault faults.Full = Command (Unfinished (2 ^ 48))
+end_of_fault faults.Full = Unfinished (2 ^ 48)
 
 -- .. where Low's party ended so
-abbrev pub end_of_dropper : DropEnd → TransferEnd
-end_of_dropper party.Ended = Command Done
-end_of_dropper party.Looks = Command Done
-end_of_dropper party.Write = Command Unwritten
-end_of_dropper (party.Refused code number) = Command (Denied code number)
-end_of_dropper (party.Unfinished number) = Command (Unfinished number)
+abbrev pub end_of_dropper : DropEnd → CommandEnd
+end_of_dropper party.Ended = Done
+end_of_dropper party.Looks = Done
+end_of_dropper party.Write = Unwritten
+end_of_dropper (party.Refused code number) = Denied code number
+end_of_dropper (party.Unfinished number) = Unfinished number
 end_of_dropper (party.Failed fault) = end_of_fault fault
 
 -- a dropper for a new connection
@@ -78,17 +76,17 @@ module _ {O F L X : Type 0} (t : LinkTells L) (m : DroppingTells O) (left : F �
         → Fits start (m.stands first.outbox) → KeepsFolder m left start first visit
 
   -- no link came, or the party worked
-  abbrev pub DropsIn : SessionRow → O → O → TransferEnd → Option (List ℕ) → ℕ → Type 0
+  abbrev pub DropsIn : SessionRow → O → O → CommandEnd → Option (List ℕ) → ℕ → Type 0
   DropsIn row outbox back end mid mid_faults =
-      ((end ≡ Command Unconnected) × (back ≡ outbox) × Grows ports now_ports (NoConnection row.low_port ∷ [])
+      ((end ≡ Unconnected) × (back ≡ outbox) × Grows ports now_ports (NoConnection row.low_port ∷ [])
       × (mid ≡ written))
       ⊎ ((dropped : DropEnd) × (end ≡ end_of_dropper dropped) × HasDropped row outbox back dropped mid mid_faults)
 
   -- the row has too small messages, the folder was not given, or it was and was taken back
   abbrev pub DropsFor : {I : Type 0} → (List (FoldersStep I O) → Type 0) → (List (FoldersStep I O) → Type 0) → List ℕ
-      → SessionRow → TransferEnd → Option (List ℕ) → ℕ → Type 0
+      → SessionRow → CommandEnd → Option (List ℕ) → ℕ → Type 0
   DropsFor did now_did folder row end mid mid_faults =
-      ((row.message < 138) × (end ≡ Command (NoRow (Short row.id))) × Grows did now_did [] × Grows ports now_ports []
+      ((row.message < 138) × (end ≡ NoRow (Short row.id)) × Grows did now_did [] × Grows ports now_ports []
       × (mid ≡ written))
       ⊎ (((138 ≤ row.message) × (end ≡ Folder) × Grows did now_did (NoOutbox folder row.id ∷ [])
       × Grows ports now_ports [] × (mid ≡ written))
@@ -99,8 +97,8 @@ module _ {O F L X : Type 0} (t : LinkTells L) (m : DroppingTells O) (left : F �
   -- .. over the row of the session, if the table has one; `file` is the table's, and the counts behind it are those
   -- of the files
   abbrev pub DropComes : {I : Type 0} → (List (FoldersStep I O) → Type 0) → (List (FoldersStep I O) → Type 0)
-      → List ℕ → Option (List ℕ) → ℕ → ℕ → ℕ → TransferEnd → Option (List ℕ) → ℕ → Type 0
+      → List ℕ → Option (List ℕ) → ℕ → ℕ → ℕ → CommandEnd → Option (List ℕ) → ℕ → Type 0
   DropComes did now_did folder file file_faults now_file_faults session end mid mid_faults =
-      ((stop : CommandEnd) × (end ≡ Command stop) × StopsAtFile file_faults now_file_faults file session stop
-      × Grows did now_did [] × Grows ports now_ports [] × (mid ≡ written))
+      (StopsAtFile file_faults now_file_faults file session end × Grows did now_did [] × Grows ports now_ports []
+      × (mid ≡ written))
       ⊎ ((row : SessionRow) × HasRow file session row × DropsFor did now_did folder row end mid mid_faults)

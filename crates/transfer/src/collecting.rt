@@ -1,22 +1,21 @@
 //! `collect`: High's party, over a link to the high port of a session of the table, and a folder.
 
 ghost use Rattle.std.specs.Prelude.{◌≡◌, ◌≤◌, ◌∷◌, ◌++◌, [], false, codes, decimal, option_copied};
-ghost use Rattle.std.specs.Io.KnownBytes.{Appends};
 ghost use Rattle.pump_frame.specs.Counts.{Rose};
 ghost use Rattle.pump_frame.specs.Rows.{IsLawfulRow};
-ghost use Rattle.command_ends.specs.Causes.{HasStatusCause};
+ghost use Rattle.command_ends.specs.Causes.{HasStatusCause, IsTransferCaused};
+ghost use Rattle.command_ends.specs.CommandEnds.{EndsLive};
 ghost use Rattle.peers.specs.Appending.{link_tells};
 ghost use Rattle.peers.specs.Outputs.{PrintsPart};
 ghost use Rattle.file_collector.specs.Collecting.{IsCollecting, taken_count};
 ghost use Rattle.file_collector.specs.declared.collector.Collector.{Collector as Collecting};
 ghost use Rattle.transfer.specs.Collecting.{CollectComes, CollectsFor, CollectsIn, CollectsOver, end_of_collector};
 ghost use Rattle.transfer.specs.Collecting.{end_of_opening, lost_line};
-ghost use Rattle.transfer.specs.Ends.{EndsTransfer, IsTransferCaused};
+ghost use Rattle.transfer.specs.Ends.{causes};
 
-use crate::ending::{TransferEnd, finish};
 use crate::errand::{Errand, LEAST_MESSAGE};
 use arrayvec::ArrayVec;
-use command_ends::{CommandEnd, NoRow, put, put_number, row_in_file};
+use command_ends::{CommandEnd, NoRow, finish, put, put_number, row_in_file};
 use command_line::TableName;
 use disk_model::Shelf;
 use file_collector::{CollectFault, Collector};
@@ -31,30 +30,28 @@ use std::alloc::Global;
 /// How collecting ended, and the folder.
 #[derive(Drop)]
 struct Collected<I> {
-    end: TransferEnd,
+    end: CommandEnd,
     inbox: I,
 }
 
-fn end_of_collector(end: CollectEnd) -> TransferEnd
+fn end_of_collector(end: CollectEnd) -> CommandEnd
     ensures { result ≡ end_of_collector end }
 {
     match end {
-        CollectEnd::Ended | CollectEnd::Looks => TransferEnd::Command(CommandEnd::Done),
-        CollectEnd::Write => TransferEnd::Command(CommandEnd::Unwritten),
-        CollectEnd::Folder { .. } | CollectEnd::Device { .. } => TransferEnd::Folder,
-        CollectEnd::NameTaken { number } => TransferEnd::NameTaken { number },
-        CollectEnd::Ahead { number, count } => {
-            TransferEnd::Command(CommandEnd::Ahead { number, count })
-        }
+        CollectEnd::Ended | CollectEnd::Looks => CommandEnd::Done,
+        CollectEnd::Write => CommandEnd::Unwritten,
+        CollectEnd::Folder { .. } | CollectEnd::Device { .. } => CommandEnd::Folder,
+        CollectEnd::NameTaken { number } => CommandEnd::NameTaken { number },
+        CollectEnd::Ahead { number, count } => { CommandEnd::Ahead { number, count } }
     }
 }
 
-fn end_of_opening(fault: CollectFault) -> TransferEnd
+fn end_of_opening(fault: CollectFault) -> CommandEnd
     ensures { result ≡ end_of_opening fault }
 {
     match fault {
-        CollectFault::Folder { .. } | CollectFault::Register { .. } => TransferEnd::Folder,
-        CollectFault::Other | CollectFault::Damaged => TransferEnd::Register,
+        CollectFault::Folder { .. } | CollectFault::Register { .. } => CommandEnd::Folder,
+        CollectFault::Other | CollectFault::Damaged => CommandEnd::Register,
     }
 }
 
@@ -87,7 +84,7 @@ fn tell_lost<O: Sink>(session: u32, count: u64, lost: Option<&FileName>, out: &m
 }
 
 // The folder of a collector that has come to this end.
-fn closed<I: Inbox>(end: TransferEnd, collector: Collector<I>) -> Collected<I>
+fn closed<I: Inbox>(end: CommandEnd, collector: Collector<I>) -> Collected<I>
 where
     I::Disk: Drop,
     ensures end { result.end ≡ end }
@@ -113,21 +110,16 @@ where
         × CollectsOver (link_tells P.Link.gives P.Link.sent P.Link.faults) I.told I.Disk.told looks
         (P.did ports.old) (P.did ports.new) (O.written out.old) (O.faults out.old) row.now collector now result.end
         (O.written out.new) (O.faults out.new) }
-    ensures cause { IsTransferCaused (record {
-      memory = Appends (O.written out.old) (O.written out.new) [];
-      read = ⊥;
-      unwritten = Rose (O.faults out.old) (O.faults out.new);
-      device = λ role. Unit;
-      link = Rose (P.faults ports.old) (P.faults ports.new);
-    }) result.end }
+    ensures cause { IsTransferCaused (causes ⊥ (O.written out.old) (O.written out.new) (O.faults out.old)
+        (O.faults out.new) (P.faults ports.old) (P.faults ports.new)) result.end }
     ensures later { O.faults out.old ≤ O.faults out.new }
 {
     if !tell_lost(row.id, collector.taken(), collector.lost(), out) {
-        return closed(TransferEnd::Command(CommandEnd::Unwritten), collector);
+        return closed(CommandEnd::Unwritten, collector);
     }
     let mut link = match ports.connect(row.high_port) {
         Ok(link) => link,
-        Err(_) => return closed(TransferEnd::Command(CommandEnd::Unconnected), collector),
+        Err(_) => return closed(CommandEnd::Unconnected, collector),
     };
     let end = collect_with(row, looks, &mut link, &mut collector, out);
     ports.back(link);
@@ -147,13 +139,8 @@ where
     ensures collects { CollectsIn (link_tells P.Link.gives P.Link.sent P.Link.faults) I.told I.Disk.told looks
         (P.did ports.old) (P.did ports.new) (O.written out.old) (O.faults out.old) row.now inbox result.inbox
         result.end (O.written out.new) (O.faults out.new) }
-    ensures cause { IsTransferCaused (record {
-      memory = Appends (O.written out.old) (O.written out.new) [];
-      read = ⊥;
-      unwritten = Rose (O.faults out.old) (O.faults out.new);
-      device = λ role. Unit;
-      link = Rose (P.faults ports.old) (P.faults ports.new);
-    }) result.end }
+    ensures cause { IsTransferCaused (causes ⊥ (O.written out.old) (O.written out.new) (O.faults out.old)
+        (O.faults out.new) (P.faults ports.old) (P.faults ports.new)) result.end }
     ensures later { O.faults out.old ≤ O.faults out.new }
 {
     match Collector::open(inbox) {
@@ -172,28 +159,23 @@ fn collect_for<F: Folders, P: Ports, O: Sink>(
     folders: &mut F,
     ports: &mut P,
     out: &mut O,
-) -> TransferEnd
+) -> CommandEnd
 where
     <F::Inbox as Inbox>::Disk: Drop,
     ensures collects { CollectsFor (link_tells P.Link.gives P.Link.sent P.Link.faults) F.Inbox.told
         F.Inbox.Disk.told errand.now.looks (P.did ports.old) (P.did ports.new) (O.written out.old) (O.faults out.old)
         (F.did folders.old) (F.did folders.new) errand.now.folder.now row.now result (O.written out.new)
         (O.faults out.new) }
-    ensures cause { IsTransferCaused (record {
-      memory = Appends (O.written out.old) (O.written out.new) [];
-      read = ⊥;
-      unwritten = Rose (O.faults out.old) (O.faults out.new);
-      device = λ role. Unit;
-      link = Rose (P.faults ports.old) (P.faults ports.new);
-    }) result }
+    ensures cause { IsTransferCaused (causes ⊥ (O.written out.old) (O.written out.new) (O.faults out.old)
+        (O.faults out.new) (P.faults ports.old) (P.faults ports.new)) result }
     ensures later { O.faults out.old ≤ O.faults out.new }
 {
     if row.message < LEAST_MESSAGE {
-        return TransferEnd::Command(CommandEnd::NoRow(NoRow::Short { session: row.id }));
+        return CommandEnd::NoRow(NoRow::Short { session: row.id });
     }
     let inbox = match folders.inbox(errand.folder.as_str(), row.id) {
         Ok(inbox) => inbox,
-        Err(FoldersFault) => return TransferEnd::Folder,
+        Err(FoldersFault) => return CommandEnd::Folder,
     };
     let collected = collect_in(row, errand.looks, ports, inbox, out);
     folders.inbox_back(collected.inbox);
@@ -208,7 +190,7 @@ fn run_collect<S: Shelf, F: Folders, P: Ports, O: Sink>(
     folders: &mut F,
     ports: &mut P,
     out: &mut O,
-) -> TransferEnd
+) -> CommandEnd
 where
     <F::Inbox as Inbox>::Disk: Drop,
     ensures comes { S.told.tells → CollectComes (link_tells P.Link.gives P.Link.sent P.Link.faults) F.Inbox.told
@@ -216,19 +198,15 @@ where
         (F.did folders.old) (F.did folders.new) errand.now.folder.now
         (S.told.file shelf.old errand.now.table.now) (S.told.faults shelf.old) (S.told.faults shelf.new)
         errand.now.session result (O.written out.new) (O.faults out.new) }
-    ensures cause { IsTransferCaused (record {
-      memory = Appends (O.written out.old) (O.written out.new) [];
-      read = Rose (S.told.faults shelf.old) (S.told.faults shelf.new);
-      unwritten = Rose (O.faults out.old) (O.faults out.new);
-      device = λ role. Unit;
-      link = Rose (P.faults ports.old) (P.faults ports.new);
-    }) result }
+    ensures cause { IsTransferCaused (causes (Rose (S.told.faults shelf.old) (S.told.faults shelf.new))
+        (O.written out.old) (O.written out.new) (O.faults out.old) (O.faults out.new) (P.faults ports.old)
+        (P.faults ports.new)) result }
     ensures disks { S.told.disk shelf.new ≡ S.told.disk shelf.old }
     ensures later { O.faults out.old ≤ O.faults out.new }
 {
     match row_in_file(alloc, shelf, errand.table.as_str(), errand.session) {
         Ok(row) => collect_for(&row, errand, folders, ports, out),
-        Err(end) => TransferEnd::Command(end),
+        Err(end) => end,
     }
 }
 
@@ -246,18 +224,14 @@ pub fn collect_files<S: Shelf, F: Folders, P: Ports, O: Sink>(
 ) -> u8
 where
     <F::Inbox as Inbox>::Disk: Drop,
-    ensures ends { S.told.tells → EndsTransfer (CollectComes (link_tells P.Link.gives P.Link.sent P.Link.faults)
+    ensures ends { S.told.tells → EndsLive (CollectComes (link_tells P.Link.gives P.Link.sent P.Link.faults)
         F.Inbox.told F.Inbox.Disk.told errand.now.looks (P.did ports.old) (P.did ports.new) (O.written out.old)
         (O.faults out.old) (F.did folders.old) (F.did folders.new) errand.now.folder.now
         (S.told.file shelf.old errand.now.table.now) (S.told.faults shelf.old) (S.told.faults shelf.new)
         errand.now.session) (O.written out.new) (O.faults out.new) errand.now.session result }
-    ensures cause { HasStatusCause (record {
-      memory = Appends (O.written out.old) (O.written out.new) [];
-      read = Rose (S.told.faults shelf.old) (S.told.faults shelf.new);
-      unwritten = Rose (O.faults out.old) (O.faults out.new);
-      device = λ role. Unit;
-      link = Rose (P.faults ports.old) (P.faults ports.new);
-    }) ⊥ result }
+    ensures cause { HasStatusCause (causes (Rose (S.told.faults shelf.old) (S.told.faults shelf.new))
+        (O.written out.old) (O.written out.new) (O.faults out.old) (O.faults out.new) (P.faults ports.old)
+        (P.faults ports.new)) ⊥ result }
     ensures disks { S.told.disk shelf.new ≡ S.told.disk shelf.old }
 {
     let end = run_collect(alloc, errand, shelf, folders, ports, out);

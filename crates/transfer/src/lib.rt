@@ -6,9 +6,7 @@
 
 mod collecting;
 mod dropping;
-mod ending;
 mod errand;
 mod transferring;
 
-pub use ending::TransferEnd;
 pub use transferring::transfer;

@@ -1,17 +1,16 @@
 //! The command that the words are.
 
-ghost use Rattle.std.specs.Prelude.{◌≡◌, ◌⊎◌, ◌≤◌, ℕ, true, List, [], map, string_bytes};
-ghost use Rattle.std.specs.Io.KnownBytes.{Appends};
+ghost use Rattle.std.specs.Prelude.{◌≡◌, ℕ, List, map, string_bytes};
 ghost use Rattle.pump_frame.specs.Counts.{Rose};
 ghost use Rattle.command_line.specs.Commands.{AreWordsOf};
 ghost use Rattle.command_line.specs.declared.command.Command.TheVariants as commands;
 ghost use Rattle.command_ends.specs.Causes.{HasStatusCause};
-ghost use Rattle.command_ends.specs.CommandEnds.{RefusesWords};
+ghost use Rattle.command_ends.specs.CommandEnds.{EndsLive, RefusesWords};
 ghost use Rattle.peers.specs.Appending.{link_tells};
 ghost use Rattle.transfer.specs.Commands.{IsNoTransfer};
 ghost use Rattle.transfer.specs.Collecting.{CollectComes};
 ghost use Rattle.transfer.specs.Dropping.{DropComes};
-ghost use Rattle.transfer.specs.Ends.{EndsTransfer};
+ghost use Rattle.transfer.specs.Ends.{causes};
 
 use crate::collecting::collect_files;
 use crate::dropping::drop_files;
@@ -62,23 +61,19 @@ where
     // No disk leaves the shelf.
     ensures disks { S.told.disk shelf.new ≡ S.told.disk shelf.old }
     // The statuses that come only by a cause.
-    ensures cause { HasStatusCause (record {
-      memory = Appends (O.written out.old) (O.written out.new) [];
-      read = Rose (S.told.faults shelf.old) (S.told.faults shelf.new);
-      unwritten = Rose (O.faults out.old) (O.faults out.new);
-      device = λ role. Unit;
-      link = Rose (P.faults ports.old) (P.faults ports.new);
-    }) (IsNoTransfer (map string_bytes words.now.items)) result }
+    ensures cause { HasStatusCause (causes (Rose (S.told.faults shelf.old) (S.told.faults shelf.new))
+        (O.written out.old) (O.written out.new) (O.faults out.old) (O.faults out.new) (P.faults ports.old)
+        (P.faults ports.new)) (IsNoTransfer (map string_bytes words.now.items)) result }
     ensures drop { (table folder : List ℕ) (session looks : ℕ)
         → AreWordsOf (map string_bytes words.now.items) (commands.DropFiles table session looks folder)
-        → S.told.tells → EndsTransfer (DropComes (link_tells P.Link.gives P.Link.sent P.Link.faults)
+        → S.told.tells → EndsLive (DropComes (link_tells P.Link.gives P.Link.sent P.Link.faults)
         F.Outbox.told F.Outbox.File.left F.Outbox.File.faults looks (P.did ports.old) (P.did ports.new)
         (O.written out.old) (O.faults out.old) (F.did folders.old) (F.did folders.new) folder
         (S.told.file shelf.old table) (S.told.faults shelf.old) (S.told.faults shelf.new) session) (O.written out.new)
         (O.faults out.new) session result }
     ensures collect { (table folder : List ℕ) (session looks : ℕ)
         → AreWordsOf (map string_bytes words.now.items) (commands.CollectFiles table session looks folder)
-        → S.told.tells → EndsTransfer (CollectComes (link_tells P.Link.gives P.Link.sent P.Link.faults)
+        → S.told.tells → EndsLive (CollectComes (link_tells P.Link.gives P.Link.sent P.Link.faults)
         F.Inbox.told F.Inbox.Disk.told looks (P.did ports.old) (P.did ports.new) (O.written out.old)
         (O.faults out.old) (F.did folders.old) (F.did folders.new) folder (S.told.file shelf.old table)
         (S.told.faults shelf.old) (S.told.faults shelf.new) session) (O.written out.new) (O.faults out.new) session

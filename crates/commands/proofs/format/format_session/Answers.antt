@@ -1,7 +1,8 @@
-use Rattle.std.proofs.Common.{◌≡◌, List, ℕ, Err, sym, ap, ◌∙◌, subst}
+use Rattle.std.proofs.Common.{◌≡◌, List, ℕ, sym, ◌∙◌, subst}
 use Rattle.commands.specs.Formatting.{Formats, formatted_line}
 use Rattle.command_ends.specs.declared.command_end.CommandEnd.TheVariants as ends
-use Rattle.command_ends.proofs.CommandEnds.{ends_so, closed_end}
+use Rattle.command_ends.proofs.CommandEnds.{closed_cause, done_cause, ends_so}
+use Rattle.command_ends.specs.CommandEnds.{IsSessionEnd}
 use Rattle.script_replay.specs.Failing.{FailsAt}
 use Rattle.commands.proofs.format.format_session.Goals as goal
 
@@ -13,7 +14,10 @@ returns-in-Ok-clause-ends g c = λ told tells.
 
 pub returns-in-Err-clause-ends : goal.returns-in-Err-clause-ends
 returns-in-Err-clause-ends g c = λ told tells.
-    ends_so (Formats (g.S.Shelf.told.file c.args.shelf.now c.args.table.now) (g.S.Shelf.told.disk c.args.shelf.now) (g.S.Shelf.told.disk c.format_row.new.shelf) (FailsAt g.S.Shelf.told g.S.Disk.Disk.told c.args.shelf.now c.format_row.new.shelf) c.args.session) (λ output h. h) _ _ _ _ _ c.in-Err.end c.fail.result c.fail.ensures (c.in-Err.ensures.formats told tells)
+    ends_so (Formats (g.S.Shelf.told.file c.args.shelf.now c.args.table.now) (g.S.Shelf.told.disk c.args.shelf.now) (g.S.Shelf.told.disk c.format_row.new.shelf) (FailsAt g.S.Shelf.told g.S.Disk.Disk.told c.args.shelf.now c.format_row.new.shelf) c.args.session) (λ output h. h) _ _ _ _ _ c.in-Err.end c.write_end.result c.write_end.ensures (c.in-Err.ensures.formats told tells)
 
-pub returns-in-Err-clause-device : goal.returns-in-Err-clause-device
-returns-in-Err-clause-device g c = λ role is. (c.in-Err.ensures.device role (ap Err (closed_end _ _ _ _ _ c.in-Err.end c.fail.result role c.fail.ensures is))).0
+pub returns-in-Ok-clause-cause : goal.returns-in-Ok-clause-cause
+returns-in-Ok-clause-cause g c = done_cause _ _ _ _ _ _ _ c.close.result c.close.ensures
+
+pub returns-in-Err-clause-cause : goal.returns-in-Err-clause-cause
+returns-in-Err-clause-cause g c = closed_cause IsSessionEnd _ _ _ _ _ _ _ _ c.in-Err.end c.write_end.result tt c.write_end.ensures c.in-Err.ensures.cause (λ role fails. fails.0)

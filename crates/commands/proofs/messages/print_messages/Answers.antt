@@ -4,7 +4,8 @@ use Rattle.high_receiver.specs.Receiving.{recv_disk, recv_row}
 use Rattle.commands.specs.Messages.{HasLog, PrintsMessages}
 use Rattle.commands.specs.ReadDisks.{disk_file}
 use Rattle.command_ends.specs.declared.command_end.CommandEnd.TheVariants as ends
-use Rattle.command_ends.proofs.CommandEnds.{ends_so, done_not_failed, done_not_unread, done_unwritten, done_status}
+use Rattle.command_ends.proofs.CommandEnds.{closed_cause, done_cause, ends_so}
+use Rattle.command_ends.specs.CommandEnds.{IsSessionEnd}
 use Rattle.commands.proofs.messages.print_messages.Goals as goal
 
 pub returns-in-Ok-clause-ends : goal.returns-in-Ok-clause-ends
@@ -15,26 +16,14 @@ returns-in-Ok-clause-ends g c = λ told.
     ends_so (PrintsMessages (g.S.Shelf.told.file c.args.shelf.now c.args.table.now) (disk_file (g.S.Shelf.told.file c.args.shelf.now) c.args.session Recv) c.args.session c.args.from) (λ output h. h) _ _ _ _ _ ends.Done c.write_messages.result
     (c.write_messages.ensures stands.0 stands.1) (recv_row c.in-Ok.receiver, c.in-Ok.ensures.row told, stands.0, log, refl)
 
-pub returns-in-Ok-clause-device : goal.returns-in-Ok-clause-device
-returns-in-Ok-clause-device g c = λ role is.
+pub returns-in-Ok-clause-cause : goal.returns-in-Ok-clause-cause
+returns-in-Ok-clause-cause g c =
     let stands = c.in-Ok.ensures.opens.ready.stands tt in
-    absurd (done_not_failed _ _ _ _ _ c.write_messages.result role (c.write_messages.ensures stands.0 stands.1) is)
-
-pub returns-in-Ok-clause-read : goal.returns-in-Ok-clause-read
-returns-in-Ok-clause-read g c = λ is.
-    let stands = c.in-Ok.ensures.opens.ready.stands tt in
-    absurd (done_not_unread _ _ _ _ _ c.write_messages.result (c.write_messages.ensures stands.0 stands.1) is)
-
-pub returns-in-Ok-clause-unwritten : goal.returns-in-Ok-clause-unwritten
-returns-in-Ok-clause-unwritten g c = λ is.
-    let stands = c.in-Ok.ensures.opens.ready.stands tt in
-    done_unwritten _ _ _ _ _ c.write_messages.result (c.write_messages.ensures stands.0 stands.1) is
-
-pub returns-in-Ok-clause-status : goal.returns-in-Ok-clause-status
-returns-in-Ok-clause-status g c =
-    let stands = c.in-Ok.ensures.opens.ready.stands tt in
-    done_status _ _ _ _ _ c.write_messages.result (c.write_messages.ensures stands.0 stands.1)
+    done_cause _ _ _ _ _ _ _ c.write_messages.result (c.write_messages.ensures stands.0 stands.1)
 
 pub returns-in-Err-clause-ends : goal.returns-in-Err-clause-ends
 returns-in-Err-clause-ends g c = λ told.
-    ends_so (PrintsMessages (g.S.Shelf.told.file c.args.shelf.now c.args.table.now) (disk_file (g.S.Shelf.told.file c.args.shelf.now) c.args.session Recv) c.args.session c.args.from) (λ output h. h) _ _ _ _ _ c.in-Err.end c.fail.result c.fail.ensures (c.in-Err.ensures.stops c.args.from told)
+    ends_so (PrintsMessages (g.S.Shelf.told.file c.args.shelf.now c.args.table.now) (disk_file (g.S.Shelf.told.file c.args.shelf.now) c.args.session Recv) c.args.session c.args.from) (λ output h. h) _ _ _ _ _ c.in-Err.end c.write_end.result c.write_end.ensures (c.in-Err.ensures.stops c.args.from told)
+
+pub returns-in-Err-clause-cause : goal.returns-in-Err-clause-cause
+returns-in-Err-clause-cause g c = closed_cause IsSessionEnd _ _ _ _ _ _ _ _ c.in-Err.end c.write_end.result tt c.write_end.ensures c.in-Err.ensures.cause (λ role rose. rose)

@@ -32,10 +32,10 @@ loop-number-preserved g c =
     let here = λ (messages : List (List ℕ)) (stands : RecvStands (recv_row c.args.receiver) messages (recv_disk c.args.receiver).bytes). stands_still c.args.receiver c.loop-number.receiver messages kept.row kept.same stands in
     record {
       ready = e.ready;
-      calm = e.armed tt ∙ kept.calm;
-      count = e.count ∙ kept.count;
-      row = e.row ∙ kept.row;
-      same = e.moves.reads tt ∙ kept.same;
+      calm = e.answers.armed tt ∙ kept.calm;
+      count = e.keeps.count ∙ kept.count;
+      row = e.keeps.row ∙ kept.row;
+      same = e.keeps.moves.reads tt ∙ kept.same;
       reading = e.reading;
       given = e.given ∙ ap (λ k. k + 1) kept.given;
       later = omega (arith, kept.later, w.cause.later);

@@ -1,12 +1,13 @@
-use Rattle.std.proofs.Common.{ℕ, List, inl, refl, sym, ◌∙◌, subst}
+use Rattle.std.proofs.Common.{ℕ, List, inl, sym, ◌∙◌, subst}
 use Rattle.std.proofs.KnownBytes.{Appends-nil}
 use Rattle.disk_model.specs.declared.name.Role.TheVariants as roles
 use Rattle.pump_frame.specs.declared.row.SessionRow.{SessionRow}
 use Rattle.stable_buffer.specs.Log.{RecvStands}
 use Rattle.commands.specs.LentDisks.{StopsAtDisk}
-use Rattle.commands.specs.Unwrapping.{IsUnwrapStatus, UnwrapsOn, unwrap_status}
+use Rattle.command_ends.specs.CommandEnds.{IsUnwrapEnd}
+use Rattle.commands.specs.Unwrapping.{UnwrapsOn}
 use Rattle.commands.proofs.LentDisks.{refused_role, stops_at_disk}
-use Rattle.commands.proofs.Unwrapped.{gather_role, gather_status, stopped_end, unwraps_gathered}
+use Rattle.commands.proofs.Unwrapped.{gather_only, gather_role, unwraps_gathered}
 use Rattle.commands.proofs.unwrap.unwrap_on.Goals as goal
 
 pub returns-in-Ok-clause-unwraps : goal.returns-in-Ok-clause-unwraps
@@ -23,13 +24,13 @@ pub returns-in-Err-clause-unwraps : goal.returns-in-Err-clause-unwraps
 returns-in-Err-clause-unwraps g c = λ tells.
     let row = c.args.row.now in
     let stops = subst (StopsAtDisk _ row) (sym c.end_at.ensures) (stops_at_disk _ row c.in-Err.why (λ other. c.in-Err.ensures.exact other tells)) in
-    inl (c.end_at.result, stops, refl, Appends-nil _)
+    inl (stops, Appends-nil _)
 
-pub returns-in-Ok-clause-status : goal.returns-in-Ok-clause-status
-returns-in-Ok-clause-status g c = subst (λ e. IsUnwrapStatus (unwrap_status e)) (sym c.end_of_gather.ensures) (gather_status c.gather-gathered.result)
+pub returns-in-Ok-clause-only : goal.returns-in-Ok-clause-only
+returns-in-Ok-clause-only g c = subst IsUnwrapEnd (sym c.end_of_gather.ensures) (gather_only c.gather-gathered.result)
 
 pub returns-in-Ok-clause-role : goal.returns-in-Ok-clause-role
 returns-in-Ok-clause-role g c = λ role is. gather_role c.gather-gathered.result role (sym c.end_of_gather.ensures ∙ is)
 
 pub returns-in-Err-clause-role : goal.returns-in-Err-clause-role
-returns-in-Err-clause-role g c = λ role is. refused_role roles.Recv role c.in-Err.why (sym c.end_at.ensures ∙ stopped_end _ _ is)
+returns-in-Err-clause-role g c = λ role is. refused_role roles.Recv role c.in-Err.why (sym c.end_at.ensures ∙ is)

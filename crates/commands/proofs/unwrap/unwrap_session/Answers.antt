@@ -1,4 +1,4 @@
-use Rattle.std.proofs.Common.{ℕ, List, Err, inl, refl, ap, subst}
+use Rattle.std.proofs.Common.{ℕ, List, Err, inl, ap, subst}
 use Rattle.std.proofs.KnownBytes.{Appends-nil}
 use Rattle.commands.specs.LentDisks.{RecvFailsAt}
 use Rattle.command_ends.specs.Tables.{HasRow, IsRowOf, IsTableEnd}
@@ -6,15 +6,23 @@ use Rattle.command_ends.specs.declared.command_end.CommandEnd.{CommandEnd}
 use Rattle.script_replay.specs.Shelves.{Places, reading_in}
 use Rattle.command_ends.proofs.CommandEnds.{names_failed}
 use Rattle.commands.proofs.Failing.{recv_fails_later}
-use Rattle.command_ends.proofs.TableRows.{stops_at_table}
-use Rattle.commands.proofs.Unwrapped.{names_failed_disk, stopped_end, unwraps_row}
+use Rattle.command_ends.specs.CommandEnds.{IsUnwrapEnd}
+use Rattle.command_ends.proofs.TableRows.{stops_at_table, table_cause}
+use Rattle.commands.proofs.Unwrapped.{unwrap_table_only, unwraps_row}
 use Rattle.commands.proofs.unwrap.unwrap_session.Goals as goal
 
-pub returns-in-Ok-clause-device : goal.returns-in-Ok-clause-device
-returns-in-Ok-clause-device g c = λ role is.
+pub returns-in-Ok-clause-cause : goal.returns-in-Ok-clause-cause
+returns-in-Ok-clause-cause g c =
     let r = c.in-Ok.ensures in
-    subst (λ (n : ℕ). RecvFailsAt g.S.Shelf.told g.S.Disk.Disk.told c.args.shelf.now c.unwrap_row.new.shelf n role) r.id
-    (recv_fails_later g.S.Shelf.told g.S.Disk.Disk.told c.args.shelf.now c.row_in_file.new.shelf c.unwrap_row.new.shelf c.in-Ok.row.id role r.disks r.disk_faults (c.unwrap_row.ensures.device role is))
+    let u = c.unwrap_row.ensures.cause in
+    record {
+      only = u.only;
+      device = λ role is.
+          subst (λ (n : ℕ). RecvFailsAt g.S.Shelf.told g.S.Disk.Disk.told c.args.shelf.now c.unwrap_row.new.shelf n role) r.id
+          (recv_fails_later g.S.Shelf.told g.S.Disk.Disk.told c.args.shelf.now c.row_in_file.new.shelf c.unwrap_row.new.shelf c.in-Ok.row.id role r.disks r.disk_faults (u.device role is));
+      read = λ is. absurd (u.read is);
+      unwritten = u.unwritten;
+    }
 
 pub returns-in-Ok-clause-unwraps : goal.returns-in-Ok-clause-unwraps
 returns-in-Ok-clause-unwraps g c = λ told tells.
@@ -23,13 +31,13 @@ returns-in-Ok-clause-unwraps g c = λ told tells.
     let fails = RecvFailsAt g.S.Shelf.told g.S.Disk.Disk.told c.args.shelf.now c.unwrap_row.new.shelf in
     unwraps_row (g.S.Shelf.told.file c.args.shelf.now c.args.table.now) (g.S.Shelf.told.disk c.args.shelf.now) (g.S.Shelf.told.disk c.row_in_file.new.shelf) (g.S.Shelf.told.disk c.unwrap_row.new.shelf) fails c.args.session row _ _ c.unwrap_row.result
     (subst (λ (n : List ℕ). HasRow (g.S.Shelf.told.file c.args.shelf.now n) c.args.session row) c.as_str.ensures.value (r.row told)) r.disks (c.unwrap_row.ensures.alike told tells)
-    (names_failed_disk fails c.args.session c.unwrap_row.result (λ role is.
+    (names_failed fails c.args.session c.unwrap_row.result (λ role is.
     subst (λ (n : ℕ). fails n role) r.id
-    (recv_fails_later g.S.Shelf.told g.S.Disk.Disk.told c.args.shelf.now c.row_in_file.new.shelf c.unwrap_row.new.shelf row.id role r.disks r.disk_faults (c.unwrap_row.ensures.device role is))))
+    (recv_fails_later g.S.Shelf.told g.S.Disk.Disk.told c.args.shelf.now c.row_in_file.new.shelf c.unwrap_row.new.shelf row.id role r.disks r.disk_faults (c.unwrap_row.ensures.cause.device role is))))
     (c.unwrap_row.ensures.unwraps told tells)
 
-pub returns-in-Err-clause-device : goal.returns-in-Err-clause-device
-returns-in-Err-clause-device g c = λ role is. absurd (subst (λ (end : CommandEnd). IsTableEnd end) (stopped_end _ _ is) c.in-Err.ensures.only)
+pub returns-in-Err-clause-cause : goal.returns-in-Err-clause-cause
+returns-in-Err-clause-cause g c = table_cause IsUnwrapEnd _ _ _ c.in-Err.end c.in-Err.ensures.only unwrap_table_only c.in-Err.ensures.read
 
 pub returns-in-Err-clause-unwraps : goal.returns-in-Err-clause-unwraps
 returns-in-Err-clause-unwraps g c = λ told tells.
@@ -38,9 +46,7 @@ returns-in-Err-clause-unwraps g c = λ told tells.
       (λ name. ap (λ (places : Places). reading_in (places name)) e.disks),
       names_failed (RecvFailsAt g.S.Shelf.told g.S.Disk.Disk.told c.args.shelf.now c.row_in_file.new.shelf) c.args.session end (λ role is. absurd (subst (λ (x : CommandEnd). IsTableEnd x) is e.only)),
       inl (
-        end,
         stops_at_table (g.S.Shelf.told.file c.args.shelf.now c.args.table.now) c.args.session end e.only (subst (λ (n : List ℕ). IsRowOf (g.S.Shelf.told.file c.args.shelf.now n) c.args.session (Err end)) c.as_str.ensures.value (e.row told)),
-        refl,
         Appends-nil _,
       ),
     )

@@ -3,7 +3,7 @@ use Rattle.std.proofs.Common.{rules, inl, inr, refl, sym, subst}
 use Rattle.command_line.specs.declared.command.Command.TheVariants as commands
 use Rattle.command_line.proofs.Asked.{asks}
 use Rattle.dispatch.proofs.Asked.{asks_none, elsewhere_alone, elsewhere_one, is_not, other, not_wrap, not_script, not_beside, never_wrap, never_script, never_beside, messages_asked, messages_nothing, tells_asked, tells_nothing, formats_asked, formats_nothing, shows_asked, shows_nothing, migrates_asked, migrates_nothing, wraps_asked, wraps_nothing, unwraps_asked, unwraps_nothing, exercise_asked}
-use Rattle.dispatch.proofs.Caused.{end_causes, unwrap_causes, send_causes, chain_causes, told_not, exercise_not, audit_not, compare_not, end_in, unwrap_in, send_in, replay_in, told_in, exercise_in, audit_in, compare_in}
+use Rattle.dispatch.proofs.Caused.{end_causes, session_no_folder, unwrap_no_folder, wrap_no_folder, chain_causes, told_not, exercise_not, audit_not, compare_not, end_in, unwrap_in, wrap_in, replay_in, told_in, exercise_in, audit_in, compare_in}
 use Rattle.commands.specs.LentDisks.{RecvFailsAt}
 use Rattle.script_replay.specs.Failing.{FailsAt}
 use Rattle.script_replay.specs.Shelves.{AllAreBack}
@@ -15,7 +15,7 @@ returns-in-Format g c =
     let call = commands.Format c.in-Format.table c.in-Format.session in
     let a = asks _ _ c.in-Ok.asked call c.as_slice.ensures.value c.in-Ok.ensures.found c.in-Ok.ensures.command c.in-Format.is in
     let e = c.format_session.ensures in
-    let k = end_causes _ _ _ c.format_session.result c.status.result c.status.ensures e.device e.read e.unwritten in
+    let k = end_causes _ _ _ _ _ c.format_session.result c.status.result c.status.ensures e.cause (session_no_folder c.format_session.result e.cause.only) (λ role rose. rose) in
     record {
       untouched = λ none. elim (none call refl a.are) [ ];
       words = λ none. elim (none call refl a.are) [ ];
@@ -42,7 +42,7 @@ returns-in-Format g c =
       exercise = λ seed count words. elim (other _ call a (commands.Exercise seed count) refl words) [ ];
       audit = λ words. elim (other _ call a commands.Audit refl (tt, words)) [ ];
       compare = λ words. elim (other _ call a commands.Compare refl (tt, words)) [ ];
-      status = end_in _ _ c.status.ensures e.status;
+      status = end_in _ c.format_session.result c.status.ensures e.cause.only;
     }
 
 pub returns-in-Show : goal.returns-in-Show
@@ -50,7 +50,7 @@ returns-in-Show g c =
     let call = commands.Show c.in-Show.table c.in-Show.session in
     let a = asks _ _ c.in-Ok.asked call c.as_slice.ensures.value c.in-Ok.ensures.found c.in-Ok.ensures.command c.in-Show.is in
     let e = c.show_session.ensures in
-    let k = end_causes _ _ _ c.show_session.result c.status-in-Show.result c.status-in-Show.ensures e.device e.read e.unwritten in
+    let k = end_causes _ _ _ _ _ c.show_session.result c.status-in-Show.result c.status-in-Show.ensures e.cause (session_no_folder c.show_session.result e.cause.only) (λ role rose. rose) in
     record {
       untouched = λ none. elim (none call refl a.are) [ ];
       words = λ none. elim (none call refl a.are) [ ];
@@ -77,7 +77,7 @@ returns-in-Show g c =
       exercise = λ seed count words. elim (other _ call a (commands.Exercise seed count) refl words) [ ];
       audit = λ words. elim (other _ call a commands.Audit refl (tt, words)) [ ];
       compare = λ words. elim (other _ call a commands.Compare refl (tt, words)) [ ];
-      status = end_in _ _ c.status-in-Show.ensures e.status;
+      status = end_in _ c.show_session.result c.status-in-Show.ensures e.cause.only;
     }
 
 pub returns-in-Messages : goal.returns-in-Messages
@@ -85,7 +85,7 @@ returns-in-Messages g c =
     let call = commands.Messages c.in-Messages.table c.in-Messages.session c.in-Messages.from in
     let a = asks _ _ c.in-Ok.asked call c.as_slice.ensures.value c.in-Ok.ensures.found c.in-Ok.ensures.command c.in-Messages.is in
     let e = c.print_messages.ensures in
-    let k = end_causes _ _ _ c.print_messages.result c.status-in-Messages.result c.status-in-Messages.ensures e.device e.read e.unwritten in
+    let k = end_causes _ _ _ _ _ c.print_messages.result c.status-in-Messages.result c.status-in-Messages.ensures e.cause (session_no_folder c.print_messages.result e.cause.only) (λ role rose. rose) in
     record {
       untouched = λ none. elim (none call refl a.are) [ ];
       words = λ none. elim (none call refl a.are) [ ];
@@ -112,7 +112,7 @@ returns-in-Messages g c =
       exercise = λ seed count words. elim (other _ call a (commands.Exercise seed count) refl words) [ ];
       audit = λ words. elim (other _ call a commands.Audit refl (tt, words)) [ ];
       compare = λ words. elim (other _ call a commands.Compare refl (tt, words)) [ ];
-      status = end_in _ _ c.status-in-Messages.ensures e.status;
+      status = end_in _ c.print_messages.result c.status-in-Messages.ensures e.cause.only;
     }
 
 pub returns-in-Status : goal.returns-in-Status
@@ -120,7 +120,7 @@ returns-in-Status g c =
     let call = commands.Status c.in-Status.table c.in-Status.session in
     let a = asks _ _ c.in-Ok.asked call c.as_slice.ensures.value c.in-Ok.ensures.found c.in-Ok.ensures.command c.in-Status.is in
     let e = c.tell_status.ensures in
-    let k = end_causes _ _ _ c.tell_status.result c.status-in-Status.result c.status-in-Status.ensures e.device e.read e.unwritten in
+    let k = end_causes _ _ _ _ _ c.tell_status.result c.status-in-Status.result c.status-in-Status.ensures e.cause (session_no_folder c.tell_status.result e.cause.only) (λ role rose. rose) in
     record {
       untouched = λ none. elim (none call refl a.are) [ ];
       words = λ none. elim (none call refl a.are) [ ];
@@ -147,7 +147,7 @@ returns-in-Status g c =
       exercise = λ seed count words. elim (other _ call a (commands.Exercise seed count) refl words) [ ];
       audit = λ words. elim (other _ call a commands.Audit refl (tt, words)) [ ];
       compare = λ words. elim (other _ call a commands.Compare refl (tt, words)) [ ];
-      status = end_in _ _ c.status-in-Status.ensures e.status;
+      status = end_in _ c.tell_status.result c.status-in-Status.ensures e.cause.only;
     }
 
 pub returns-in-Migrate : goal.returns-in-Migrate
@@ -155,7 +155,7 @@ returns-in-Migrate g c =
     let call = commands.Migrate c.in-Migrate.table c.in-Migrate.session c.in-Migrate.new_table c.in-Migrate.new_session in
     let a = asks _ _ c.in-Ok.asked call c.as_slice.ensures.value c.in-Ok.ensures.found c.in-Ok.ensures.command c.in-Migrate.is in
     let e = c.migrate_session.ensures in
-    let k = end_causes _ _ _ c.migrate_session.result c.status-in-Migrate.result c.status-in-Migrate.ensures e.device e.read e.unwritten in
+    let k = end_causes _ _ _ _ _ c.migrate_session.result c.status-in-Migrate.result c.status-in-Migrate.ensures e.cause (session_no_folder c.migrate_session.result e.cause.only) (λ role rose. rose) in
     record {
       untouched = λ none. elim (none call refl a.are) [ ];
       words = λ none. elim (none call refl a.are) [ ];
@@ -183,7 +183,7 @@ returns-in-Migrate g c =
       exercise = λ seed count words. elim (other _ call a (commands.Exercise seed count) refl words) [ ];
       audit = λ words. elim (other _ call a commands.Audit refl (tt, words)) [ ];
       compare = λ words. elim (other _ call a commands.Compare refl (tt, words)) [ ];
-      status = end_in _ _ c.status-in-Migrate.ensures e.status;
+      status = end_in _ c.migrate_session.result c.status-in-Migrate.ensures e.cause.only;
     }
 
 pub returns-in-Unwrap : goal.returns-in-Unwrap
@@ -191,7 +191,7 @@ returns-in-Unwrap g c =
     let call = commands.Unwrap c.in-Unwrap.table c.in-Unwrap.session in
     let a = asks _ _ c.in-Ok.asked call c.as_slice.ensures.value c.in-Ok.ensures.found c.in-Ok.ensures.command c.in-Unwrap.is in
     let e = c.unwrap_session.ensures in
-    let k = unwrap_causes _ _ _ c.unwrap_session.result c.status-in-Unwrap.result c.status-in-Unwrap.ensures (λ role is. (e.device role is).1) e.read e.unwritten in
+    let k = end_causes _ _ _ _ _ c.unwrap_session.result c.status-in-Unwrap.result c.status-in-Unwrap.ensures e.cause (unwrap_no_folder c.unwrap_session.result e.cause.only) (λ role fails. fails.1) in
     record {
       untouched = λ none. elim (none call refl a.are) [ ];
       words = λ none. elim (none call refl a.are) [ ];
@@ -219,7 +219,7 @@ returns-in-Unwrap g c =
       exercise = λ seed count words. elim (other _ call a (commands.Exercise seed count) refl words) [ ];
       audit = λ words. elim (other _ call a commands.Audit refl (tt, words)) [ ];
       compare = λ words. elim (other _ call a commands.Compare refl (tt, words)) [ ];
-      status = unwrap_in _ _ c.status-in-Unwrap.ensures e.status;
+      status = unwrap_in _ c.unwrap_session.result c.status-in-Unwrap.ensures e.cause.only;
     }
 
 pub returns-in-Wrap : goal.returns-in-Wrap
@@ -227,7 +227,7 @@ returns-in-Wrap g c =
     let call = commands.Wrap c.in-Wrap.table c.in-Wrap.session in
     let a = asks _ _ c.in-Ok.asked call c.as_slice.ensures.value c.in-Ok.ensures.found c.in-Ok.ensures.command c.in-Wrap.is in
     let e = c.wrap_session.ensures in
-    let k = send_causes _ _ _ c.wrap_session.result c.status-in-Wrap.result c.status-in-Wrap.ensures (λ role is. (e.device role is).0) e.read e.unwritten in
+    let k = end_causes _ _ _ _ _ c.wrap_session.result c.status-in-Wrap.result c.status-in-Wrap.ensures e.cause (wrap_no_folder c.wrap_session.result e.cause.only) (λ role fails. fails.0) in
     record {
       untouched = λ none. elim (none call refl a.are) [ ];
       words = λ none. elim (none call refl a.are) [ ];
@@ -255,7 +255,7 @@ returns-in-Wrap g c =
       exercise = λ seed count words. elim (other _ call a (commands.Exercise seed count) refl words) [ ];
       audit = λ words. elim (other _ call a commands.Audit refl (tt, words)) [ ];
       compare = λ words. elim (other _ call a commands.Compare refl (tt, words)) [ ];
-      status = send_in _ _ c.status-in-Wrap.ensures e.status;
+      status = wrap_in _ c.wrap_session.result c.status-in-Wrap.ensures e.cause.only;
     }
 
 pub returns-in-Chain : goal.returns-in-Chain

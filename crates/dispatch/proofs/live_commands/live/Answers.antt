@@ -8,7 +8,7 @@ use Rattle.script_replay.specs.Shelves.{Places}
 use Rattle.serving.specs.Doors.{doors, links}
 use Rattle.peers.specs.Appending.{link_tells}
 use Rattle.dispatch.specs.Appendings.{AppendComes}
-use Rattle.dispatch.specs.LiveEnds.{EndsLive}
+use Rattle.command_ends.specs.CommandEnds.{EndsLive}
 use Rattle.dispatch.specs.Racing.{IsRecordOf, EndsRace}
 use Rattle.dispatch.specs.Receptions.{ReceiveComes}
 use Rattle.dispatch.specs.Sendings.{SendComes}

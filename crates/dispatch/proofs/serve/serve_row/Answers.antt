@@ -6,7 +6,7 @@ use Rattle.pump_link.proofs.Grown.{Draws-nil}
 use Rattle.relay_side.proofs.Unused.{is_unused, still_unused}
 use Rattle.script_replay.specs.Shelves.{reading_in}
 use Rattle.script_replay.proofs.Shelving.{read_in, is_out}
-use Rattle.serving.specs.declared.doors.WorkersEnd.{WorkersEnd}
+use Rattle.relay_threads.specs.declared.rounds_end.RoundsEnd.{RoundsEnd}
 use Rattle.commands.proofs.LentDisks.{both_others, both_back}
 use Rattle.dispatch.proofs.LiveEnded.{untaken_caused}
 use Rattle.dispatch.proofs.Served.{no_key, served_caused, either_way, if_ended, pair_stops, pair_rises, pair_came_back, wanting_rose}
@@ -103,13 +103,13 @@ returns-clause-cause g c =
       inr (pair_came_back g.S.Shelf.told d c.take_pair.new.shelf c.put_pair_back.new.shelf id t.disks.low t.disks.high s.result.low s.result.high t.ensures.low_out t.ensures.high_out b.low_back b.high_back role rose),
     ))
     c.args.row.now s.result.end _ c.end_of_session.ensures s.ensures.comes.opens
-    (if_ended s.result.end _ _ s.ensures.both (λ (ends : WorkersEnd) both. both.low.device)) (if_ended s.result.end _ _ s.ensures.both (λ (ends : WorkersEnd) both. both.high.device))
-    (if_ended s.result.end _ _ s.ensures.both (λ (ends : WorkersEnd) both. both.low.tape.cause))
+    (if_ended s.result.end _ _ s.ensures.both (λ (l h : RoundsEnd) both. both.low.device)) (if_ended s.result.end _ _ s.ensures.both (λ (l h : RoundsEnd) both. both.high.device))
+    (if_ended s.result.end _ _ s.ensures.both (λ (l h : RoundsEnd) both. both.low.tape.cause))
     (λ none. subst (λ (o : g.row.O.Denot). Appends (g.O.Sink.written c.args.out.now) (g.O.Sink.written o) []) (sym (s.ensures.comes.idle none).2) (Appends-nil _))
     (λ wants. wanting_rose _ _ _ _ (s.ensures.comes.wanting wants))
 
 pub returns-clause-later : goal.returns-clause-later
 returns-clause-later g c =
     let s = c.serve_session-served in
-    either_way s.result.end _ _ s.ensures.both (λ (ends : WorkersEnd) both. both.low.tape.later)
+    either_way s.result.end _ _ s.ensures.both (λ (l h : RoundsEnd) both. both.low.tape.later)
     (λ none. subst (λ (o : g.row.O.Denot). g.O.Sink.faults c.args.out.now ≤ g.O.Sink.faults o) (sym (s.ensures.comes.idle none).2) (omega arith))

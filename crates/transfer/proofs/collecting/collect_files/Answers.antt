@@ -1,3 +1,4 @@
+use Rattle.transfer.proofs.Told.{status_caused}
 use Rattle.transfer.proofs.collecting.collect_files.Goals as goal
 
 pub returns-clause-ends : goal.returns-clause-ends
@@ -9,3 +10,9 @@ returns-clause-ends g c = λ told. record {
   last = c.finish.ensures.closes;
   later = c.finish.ensures.later;
 }
+
+pub returns-clause-cause : goal.returns-clause-cause
+returns-clause-cause g c =
+    let e = c.run_collect-end in
+    let f = c.finish.ensures in
+    status_caused _ (g.O.Sink.written c.args.out.now) (g.O.Sink.written e.new.out) _ (g.O.Sink.faults c.args.out.now) (g.O.Sink.faults e.new.out) _ _ _ _ _ e.result e.ensures.later f.later f.closes f.cause e.ensures.cause

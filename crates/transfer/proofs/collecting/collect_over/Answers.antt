@@ -4,7 +4,7 @@ use Rattle.pump_link.specs.Causes.{AppendsPrefix}
 use Rattle.pump_link.specs.Ports.{Connected, BackToPorts}
 use Rattle.pump_link.proofs.Grown.{Grows-nil, Grows-then}
 use Rattle.transfer.specs.Collecting.{lost_line}
-use Rattle.transfer.specs.Ends.{IsTransferCaused}
+use Rattle.command_ends.specs.Causes.{IsTransferCaused}
 use Rattle.transfer.proofs.Told.{told_in_part, told_whole, rose_before, collector_caused}
 use Rattle.transfer.proofs.collecting.collect_over.Goals as goal
 

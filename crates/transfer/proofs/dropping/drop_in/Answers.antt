@@ -1,7 +1,7 @@
 use Rattle.std.proofs.Common.{◌∷◌, [], inr, sym, ap, ◌∙◌, subst}
 use Rattle.pump_link.specs.Ports.{Connected, BackToPorts}
 use Rattle.pump_link.proofs.Grown.{Grows-then}
-use Rattle.transfer.specs.Ends.{IsTransferCaused}
+use Rattle.command_ends.specs.Causes.{IsTransferCaused}
 use Rattle.file_peers.specs.Dropping.{Drops}
 use Rattle.file_peers.specs.declared.drop.DropEnd.{DropEnd}
 use Rattle.transfer.proofs.Told.{dropper_caused, visit_unwritten}

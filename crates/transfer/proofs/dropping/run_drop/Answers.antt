@@ -10,4 +10,4 @@ returns-in-Ok-clause-comes g c = λ told.
 
 pub returns-in-Err-clause-comes : goal.returns-in-Err-clause-comes
 returns-in-Err-clause-comes g c = λ told.
-    inl (c.in-Err.end, refl, stops_at_file (g.S.Shelf.told.file c.args.shelf.now c.args.errand.now.table.now) (g.S.Shelf.told.faults c.args.shelf.now) (g.S.Shelf.told.faults c.row_in_file.new.shelf) c.args.errand.now.session c.in-Err.end c.in-Err.ensures.only (subst (λ (n : List ℕ). IsRowOf (g.S.Shelf.told.file c.args.shelf.now n) c.args.errand.now.session (Err c.in-Err.end)) c.as_str.ensures.value (c.in-Err.ensures.row told)) c.in-Err.ensures.read, Grows-nil _, Grows-nil _, refl)
+    inl (stops_at_file (g.S.Shelf.told.file c.args.shelf.now c.args.errand.now.table.now) (g.S.Shelf.told.faults c.args.shelf.now) (g.S.Shelf.told.faults c.row_in_file.new.shelf) c.args.errand.now.session c.in-Err.end c.in-Err.ensures.only (subst (λ (n : List ℕ). IsRowOf (g.S.Shelf.told.file c.args.shelf.now n) c.args.errand.now.session (Err c.in-Err.end)) c.as_str.ensures.value (c.in-Err.ensures.row told)) c.in-Err.ensures.read, Grows-nil _, Grows-nil _, refl)

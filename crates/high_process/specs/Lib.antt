@@ -1,4 +1,5 @@
 pub mod Ends
+pub mod Halves
 pub mod Looks
 pub mod Past
 pub mod Ready

@@ -1,6 +1,6 @@
 -- The steps of a high process's code. Private clauses and proofs alone cite this.
-use Rattle.std.specs.Prelude.{◌≡◌, ℕ, ◌+◌, ◌-◌, ◌^◌, Bool, ◌&&◌, ◌||◌, not, nat_lt, if◌then◌else◌, Option, Some, None}
-use Rattle.std.specs.Prelude.{is_some}
+use Rattle.std.specs.Prelude.{◌≡◌, ℕ, ◌+◌, ◌-◌, ◌^◌, ◌≤◌, Bool, ◌&&◌, ◌||◌, not, nat_lt, if◌then◌else◌, Option, Some}
+use Rattle.std.specs.Prelude.{None, is_some}
 use Rattle.pump_frame.specs.declared.frame.Item.{Item}
 use Rattle.high_process.specs.declared.values.Sent.{Sent}
 use Rattle.high_process.specs.declared.values.Asking.{Asking}
@@ -8,6 +8,10 @@ use Rattle.high_process.specs.declared.values.Task.{Task}
 use Rattle.high_process.specs.declared.values.Task.TheVariants.{Refuse, Remove, Keep}
 use Rattle.high_process.specs.declared.values.HighAsk.{HighAsk}
 use Rattle.high_process.specs.declared.values.HighLook.{HighLook}
+use Rattle.high_process.specs.declared.process.HighProcess.{HighProcess}
+use Rattle.disk_model.specs.Disk.{Meaning}
+use Rattle.stable_buffer.specs.High.{IsHighReady, high_count}
+use Rattle.stable_buffer.specs.declared.high.HighStore.{HighStore}
 use Rattle.pump_core.specs.Sendings.{time_since, is_due}
 use Rattle.pump_core.specs.Passage.{Shape, Low, High}
 use Rattle.high_process.specs.States.{State, first_sent, last_sent}
@@ -85,6 +89,13 @@ after resend attaches s = record s {
 -- what it asks
 abbrev pub ask_of : State → Option ℕ → HighAsk
 ask_of s time = record { publish = time; wants = wants_of s.removed s.hand; removed = s.removed }
+
+-- a look of this moment may begin: none is begun and not finished, and the store counts what the process does
+pub record MayBegin {D : Type 0} (m : Meaning D) (p : HighProcess) (store : HighStore D) (moment : ℕ) : Type 0 where
+  pub asking : p.asking ≡ None
+  pub in_time : moment ≤ 2 ^ 62
+  pub ready : IsHighReady m store
+  pub count : high_count store ≡ p.removed
 
 -- the first half of a look, as the code makes it
 abbrev pub StepBegins : State → State → ℕ → Task → Bool → HighAsk → Type 0

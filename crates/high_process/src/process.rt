@@ -48,7 +48,7 @@ impl HighProcess {
     ghost use Rattle.high_process.specs.Ends.{IsTime};
     ghost use Rattle.high_process.specs.Storing.{Fares, Removing, IsAfter};
     ghost use Rattle.high_process.specs.Steps.{time_of, without_hand, wants_of, asks, ask_of, with_item, sends_of};
-    ghost use Rattle.high_process.specs.Steps.{StepBegins, StepFinishes, Fills};
+    ghost use Rattle.high_process.specs.Steps.{MayBegin, StepBegins, StepFinishes, Fills};
 
     /// The process of an opening: with the count that was found, at most 2^48, and the message that
     /// was found to be the next one, if any.
@@ -198,10 +198,7 @@ impl HighProcess {
         moment: u64,
         store: &mut HighStore<D>,
     ) -> Result<Option<u32>, HighFault>
-        requires asking { self.old.asking ≡ None }
-        requires moment { moment ≤ 2 ^ 62 }
-        requires store { IsHighReady D.told store.old }
-        requires count { high_count store.old ≡ self.old.removed }
+        requires may { MayBegin D.told self.old store.old moment }
         requires below { self.old.removed < 2 ^ 48 }
         ensures row { self.new.row ≡ self.old.row }
         ensures asking { self.new.asking ≡ None }
@@ -256,10 +253,7 @@ impl HighProcess {
         attaches: bool,
         store: &mut HighStore<D>,
     ) -> Result<HighAsk, HighFault>
-        requires asking { self.old.asking ≡ None }
-        requires moment { moment ≤ 2 ^ 62 }
-        requires store { IsHighReady D.told store.old }
-        requires count { high_count store.old ≡ self.old.removed }
+        requires may { MayBegin D.told self.old store.old moment }
         requires below { task ≡ Task.Remove → self.old.removed < 2 ^ 48 }
         requires refusal { (faults : ℕ) → task ≡ Task.Refuse (HighFault.Device faults) → ⊥ }
         ensures row { self.new.row ≡ self.old.row }

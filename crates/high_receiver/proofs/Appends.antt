@@ -10,7 +10,7 @@ use Rattle.stable_buffer.specs.Stands.{HasHeader, spelled}
 use Rattle.stable_buffer.specs.Log.{Records, RecvStands, log_of}
 use Rattle.stable_buffer.proofs.Cells.{value-selects}
 use Rattle.stable_buffer.proofs.Slots.{value_beside, holds_range}
-use Rattle.high_receiver.specs.Steps.{StandsOn, MayTake}
+use Rattle.high_receiver.specs.Steps.{LogStandsOn, MayTake}
 
 -- a message stands at this offset
 pub record StandsAt (at : ℕ) (message disk : List ℕ) : Type 0 where
@@ -89,7 +89,7 @@ torn_stands row messages at n old new stands end torn =
     }
 
 -- a write at the end
-pub torn_on : (row : SessionRow) (parity first second n : ℕ) (old new : List ℕ) → Selects parity first second old → Torn second n old new → StandsOn row old new
+pub torn_on : (row : SessionRow) (parity first second n : ℕ) (old new : List ℕ) → Selects parity first second old → Torn second n old new → LogStandsOn row old new
 torn_on row parity first second n old new selects torn = record {
   same = λ messages stands. torn_stands row messages second n old new stands (let e = end_is row messages first second old (value-selects parity first second old selects) stands in e.1) torn;
 }
@@ -104,7 +104,7 @@ register_stands row messages old new same value stands = record {
   records = subst (λ (l : List ℕ). Records row.message messages l) (sym (ap (λ (l : List ℕ). take (stands.end - 80) l) same.rest)) stands.records;
 }
 
-pub register_on : (row : SessionRow) (old new : List ℕ) → KeepsValue old new → StandsOn row old new
+pub register_on : (row : SessionRow) (old new : List ℕ) → KeepsValue old new → LogStandsOn row old new
 register_on row old new keeps = record { same = λ messages stands. register_stands row messages old new keeps.outside keeps.value stands }
 
 -- what stands behind the register stays with the rest

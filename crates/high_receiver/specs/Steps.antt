@@ -4,7 +4,7 @@ use Rattle.pump_frame.specs.declared.row.SessionRow.{SessionRow}
 use Rattle.stable_buffer.specs.Log.{RecvStands}
 
 -- what stood for messages stands for them still
-pub record StandsOn (row : SessionRow) (old new : List ℕ) : Type 0 where
+pub record LogStandsOn (row : SessionRow) (old new : List ℕ) : Type 0 where
   pub same : (messages : List (List ℕ)) → RecvStands row messages old → RecvStands row messages new
 
 -- it stands for them still, or for one message more

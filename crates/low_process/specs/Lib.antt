@@ -1,4 +1,5 @@
 pub mod Ends
+pub mod Halves
 pub mod Hands
 pub mod Heads
 pub mod Looks

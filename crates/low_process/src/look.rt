@@ -1,14 +1,13 @@
 // A look of the low process: its first half, and the whole over an end that waits for nobody.
-ghost use Rattle.std.specs.Prelude.{◌≡◌, ℕ, ◌+◌, ◌^◌, ◌<◌, ◌≤◌, Bool, false, Some, None, IfSome};
+ghost use Rattle.std.specs.Prelude.{◌≡◌, ℕ, ◌+◌, ◌^◌, ◌<◌, ◌≤◌, Bool, Some, IfSome};
 ghost use Rattle.pump_frame.specs.Frames.{IsLawful as IsLawfulFrame};
 ghost use Rattle.pump_core.specs.ReplyFrames.{IsLawfulReply};
 ghost use Rattle.pump_core.specs.History.{Arrival as Offered};
 ghost use Rattle.pump_core.specs.Passage.{Low, High, ComesNext};
 ghost use Rattle.low_process.specs.declared.values.Asking.TheVariants.{Forward as AsksForward};
-ghost use Rattle.low_process.specs.Looks.{IsAnswerTo, IsInBounds, IsBetweenLooks, AsksToForward, AsksFor, IsLawful};
-ghost use Rattle.low_process.specs.Looks.{Looks, arrival_of, look_of, row_of, next_of, last_of, is_down};
-ghost use Rattle.low_process.specs.Looks.{hand_of, item_in_hand, hand_passed};
-ghost use Rattle.low_process.specs.Heads.{look_with, ask_with};
+ghost use Rattle.low_process.specs.Looks.{IsAnswerTo, IsBetweenLooks, AsksToForward, AsksFor, IsLawful, Looks};
+ghost use Rattle.low_process.specs.Looks.{arrival_of, look_of, row_of, next_of, last_of, hand_of, item_in_hand};
+ghost use Rattle.low_process.specs.Heads.{look_with, ask_with, EndsLook};
 ghost use Rattle.low_process.specs.Ends.{OfferStep, EndStep, StandsFitting};
 ghost use Rattle.low_process.specs.Whole.{HasStore, FirstHalf, WholeLook, reply_in};
 
@@ -109,14 +108,7 @@ impl LowProcess {
         ensures looks { (moment word : ℕ) (arrival : Offered) (is_fault : Bool) →
             Looks (λ h. AsksFor self.old h moment word arrival is_fault) self.new (row_of self.old)
             (look_of moment word arrival is_fault head.new.feedback) (look_with (row_of self.old) head.new) }
-        ensures bounds { IsInBounds head.new.feedback }
-        ensures reply { head.new.reply ≡ None }
-        ensures stored { head.new.stored ≡ None }
-        ensures hand { hand_of self.new ≡ hand_passed (hand_of self.old) head.new.feedback }
-        ensures row { row_of self.new ≡ row_of self.old }
-        ensures next { next_of self.new ≡ next_of self.old }
-        ensures last { last_of self.new ≡ last_of self.old }
-        ensures up { is_down self.new ≡ false }
+        ensures rest { EndsLook self.old self.new head.new }
         ensures shape { L.shape ends.new ≡ L.shape ends.old }
         ensures place { L.place ends.new ≡ L.place ends.old }
         ensures ends { (l : Low) (h : High)

@@ -33,7 +33,7 @@ pub struct LowProcess {
     ghost in_question: { IsTrue (is_asked_of next phase asking) },
 }
 
-/// What stands in the hand where it is empty.
+// What stands in the hand where it is empty.
 fn no_item() -> Item {
     Item {
         number: 0,
@@ -52,7 +52,7 @@ impl Arrival<'_> {
 }
 
 impl LowProcess {
-    ghost use Rattle.low_process.specs.Heads.{nothing_done, look_with, ask_with};
+    ghost use Rattle.low_process.specs.Heads.{nothing_done, look_with, ask_with, EndsLook};
     ghost use Rattle.pump_frame.specs.Frames.{IsLawful as IsLawfulFrame};
     ghost use Rattle.pump_frame.specs.Delays.{delay_of};
     ghost use Rattle.pump_frame.specs.Rows.{IsLawfulRow};
@@ -373,7 +373,7 @@ impl LowProcess {
         self.last + u64::from(delay(seen.average, self.word, self.row.longest))
     }
 
-    /// The rest of a look whose message the passage took.
+    // The rest of a look whose message the passage took.
     fn pass(&mut self, seen: Seen, head: &mut LookHead)
         requires asking { self.old.asking ≡ Asking.Nothing }
         requires nothing { head.old ≡ nothing_done }
@@ -382,16 +382,9 @@ impl LowProcess {
             Asks self.old.row (state_of self.old) arrival AsksForward →
             Stepped self.old.row (state_of self.old) self.new
             (look_of self.old.last self.old.word arrival is_fault head.new.feedback) (look_with self.old.row head.new) }
-        ensures hand { hand_of self.new ≡ hand_passed (hand_of self.old) head.new.feedback }
-        ensures stored { head.new.stored ≡ None }
-        ensures reply { head.new.reply ≡ None }
-        ensures row { self.new.row ≡ self.old.row }
-        ensures next { self.new.next ≡ self.old.next }
-        ensures up { is_down self.new ≡ false }
+        ensures rest { EndsLook self.old self.new head.new }
         ensures asking { self.new.asking ≡ Asking.Nothing }
-        ensures last { self.new.last ≡ self.old.last }
         ensures tells { Tells (owes self.old) (Answer.Passed seen) head.new.feedback }
-        ensures bounds { IsInBounds head.new.feedback }
     {
         if let Phase::Passing { is_owed: true } = &self.phase {
             let number = self.hand.number;
@@ -411,16 +404,9 @@ impl LowProcess {
             Asks self.old.row (state_of self.old) arrival self.old.asking →
             Stepped self.old.row (state_of self.old) self.new
             (look_of self.old.last self.old.word arrival is_fault head.new.feedback) (look_with self.old.row head.new) }
-        ensures hand { hand_of self.new ≡ hand_passed (hand_of self.old) head.new.feedback }
-        ensures stored { head.new.stored ≡ None }
-        ensures reply { head.new.reply ≡ None }
-        ensures row { self.new.row ≡ self.old.row }
-        ensures next { self.new.next ≡ self.old.next }
-        ensures up { is_down self.new ≡ false }
+        ensures rest { EndsLook self.old self.new head.new }
         ensures asking { self.new.asking ≡ Asking.Nothing }
-        ensures last { self.new.last ≡ self.old.last }
         ensures tells { Tells (owes self.old) answer head.new.feedback }
-        ensures bounds { IsInBounds head.new.feedback }
     {
         head.clear();
         let asking = self.asking;

@@ -48,7 +48,8 @@ pub record IsRow (row : SessionRow) (w : World) (size : ℕ) (recv : List ℕ) :
 
 -- nothing is refused, neither of one disk nor where they are compared, and the counts found are these: E accepted, B
 -- removed, R received
-pub record Opens (row : SessionRow) (size E B R : ℕ) (received : List (List ℕ)) (low high recv : List ℕ) : Type 0 where
+pub record OpensJointly (row : SessionRow) (size E B R : ℕ) (received : List (List ℕ)) (low high recv : List ℕ)
+    : Type 0 where
   pub found : ((value_of low).0 ≡ E) × ((value_of high).0 ≡ B) × ((value_of recv).0 ≡ R)
   pub pump : refused_pump row low high ≡ None
   pub receiver : refused_receiver row size recv ≡ None
@@ -60,7 +61,7 @@ pub record Opens (row : SessionRow) (size E B R : ℕ) (received : List (List �
 abbrev pub EachTripleOpens : Type 0
 EachTripleOpens = (row : SessionRow) (w : World) (size : ℕ) (stored removed taken : Bool) (low high recv : List ℕ)
     → IsLawful w → IsRow row w size recv → Stand row w stored removed taken low high recv
-    → Opens row size (length (accepted_if w stored)) (removed_if w removed) (length (received_if w taken))
+    → OpensJointly row size (length (accepted_if w stored)) (removed_if w removed) (length (received_if w taken))
     (received_if w taken) low high recv
 
 -- three readings that stand for a lawful world of the row as it is; its counts and its records fit the disks
@@ -77,4 +78,4 @@ pub record StandForWorld (row : SessionRow) (w : World) (size : ℕ) (low high r
 abbrev pub EachWorldOpens : Type 0
 EachWorldOpens = (row : SessionRow) (w : World) (size : ℕ) (low high recv : List ℕ) → IsLawfulRow row → row.id < 2 ^ 32
     → StandForWorld row w size low high recv
-    → Opens row size (length w.accepted) w.removed (length w.received) w.received low high recv
+    → OpensJointly row size (length w.accepted) w.removed (length w.received) w.received low high recv

@@ -5,7 +5,7 @@ use Rattle.std.proofs.lemmas.Bool.{cases_lt}
 use Rattle.std.proofs.lemmas.List.{take-take, drop-drop, drop-take, get_or_append_left, get_or_at, take_at, drop_at, length-take-le}
 use Rattle.disk_model.specs.Disk.{Torn, IsWritten}
 use Rattle.stable_buffer.specs.Register.{cell_at, place_of, selected, value_of, SameOutside, KeepsValue, MayTurnTo, Selects}
-use Rattle.stable_buffer.specs.Stands.{HasHeader, spelled, slot_of, low_size, InSlot, LowStands, HighStands, StandsOn, MayGain, MayRemove, Removes}
+use Rattle.stable_buffer.specs.Stands.{HasHeader, spelled, slot_of, low_size, InSlot, LowStands, HighStands, CellStandsOn, MayGain, MayRemove, Removes}
 use Rattle.pump_frame.specs.declared.row.SessionRow.{SessionRow}
 use Rattle.stable_buffer.proofs.Cells.{byte_before, cell_beside, value-selects}
 
@@ -80,7 +80,7 @@ slot_torn row E b messages n old new some fits free stands torn = record {
     slot_within : slot_of row E + w ≤ low_size row
     slot_within = omega (arith, inside w (E % row.capacity) row.capacity (omega arith))
 
-pub slot_torn_stands_on : (row : SessionRow) (parity first second n : ℕ) (old new : List ℕ) → 1 ≤ row.capacity → n ≤ 2 + row.message → Selects parity first second old → Torn (slot_of row first) n old new → StandsOn row old new
+pub slot_torn_stands_on : (row : SessionRow) (parity first second n : ℕ) (old new : List ℕ) → 1 ≤ row.capacity → n ≤ 2 + row.message → Selects parity first second old → Torn (slot_of row first) n old new → CellStandsOn row old new
 slot_torn_stands_on row parity first second n old new some fits selects torn = record {
   same = λ E b messages free stands.
       let e : first ≡ E = ap (λ (v : ℕ × ℕ). v.0) (sym (value-selects parity first second old selects) ∙ stands.value) in
@@ -112,7 +112,7 @@ register_stands row E b messages old new same value stands = record {
   slots = λ i lt. slot_stays row (b + i) (get_or messages i []) old new same (stands.slots i lt);
 }
 
-pub register_stands_on : (row : SessionRow) (old new : List ℕ) → KeepsValue old new → StandsOn row old new
+pub register_stands_on : (row : SessionRow) (old new : List ℕ) → KeepsValue old new → CellStandsOn row old new
 register_stands_on row old new keeps = record { same = λ E b messages free stands. register_stands row E b messages old new keeps.outside keeps.value stands }
 
 -- the register turns to the next count, and the slot has the message
@@ -148,13 +148,13 @@ turn_gains row parity first second message old new selects has turn = record {
       ];
 }
 
-pub gain_after : (row : SessionRow) (message old mid new : List ℕ) → StandsOn row old mid → MayGain row message mid new → MayGain row message old new
+pub gain_after : (row : SessionRow) (message old mid new : List ℕ) → CellStandsOn row old mid → MayGain row message mid new → MayGain row message old new
 gain_after row message old mid new on gain = record { either = λ E b messages free stands. gain.either E b messages free (on.same E b messages free stands) }
 
-pub on_after : (row : SessionRow) (old mid new : List ℕ) → StandsOn row old mid → StandsOn row mid new → StandsOn row old new
+pub on_after : (row : SessionRow) (old mid new : List ℕ) → CellStandsOn row old mid → CellStandsOn row mid new → CellStandsOn row old new
 on_after row old mid new first second = record { same = λ E b messages free stands. second.same E b messages free (first.same E b messages free stands) }
 
-pub on_gains : (row : SessionRow) (message old new : List ℕ) → StandsOn row old new → MayGain row message old new
+pub on_gains : (row : SessionRow) (message old new : List ℕ) → CellStandsOn row old new → MayGain row message old new
 on_gains row message old new on = record { either = λ E b messages free stands. inl (on.same E b messages free stands) }
 
 -- what is written is what stands there

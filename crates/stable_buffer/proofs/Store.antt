@@ -3,7 +3,7 @@ use Rattle.std.proofs.Common.{◌≡◌, inl, ℕ, ◌+◌, ◌≤◌, List, [],
 use Rattle.disk_model.specs.Disk.{Meaning, Moves, Each, Settled, Leaves}
 use Rattle.disk_model.proofs.Run.{weaker, goes_on, each_settled, each_both, leaves}
 use Rattle.stable_buffer.specs.Register.{SameOutside, value_of, KeepsValue, MayTurnTo, Selects}
-use Rattle.stable_buffer.specs.Stands.{InSlot, LowStands, StandsOn, MayGain, Gains, StandsOrGains, HighStands, MayRemove, StandsOrRemoves}
+use Rattle.stable_buffer.specs.Stands.{InSlot, LowStands, CellStandsOn, MayGain, Gains, StandsOrGains, HighStands, MayRemove, StandsOrRemoves}
 use Rattle.pump_frame.specs.declared.row.SessionRow.{SessionRow}
 use Rattle.stable_buffer.proofs.Slots.{register_stands_on, on_after, gain_after, on_gains, turn_gains, slot_stays, register_gains, with_room}
 use Rattle.stable_buffer.specs.Low.{StandsForCount}
@@ -13,12 +13,12 @@ module _ {D : Type 0} (m : Meaning D) (row : SessionRow) (message : List ℕ) wh
   nothing : (d : D) → Each m (λ c. Unit {0}) d
   nothing d = record { reading = λ told. tt; images = λ told c is. tt }
 
-  pub so_far : (old new : D) → Moves m (StandsOn row) old new → Moves m (MayGain row message) old new
-  so_far old new moved = weaker m (λ c. Unit {0}) (StandsOn row) (MayGain row message) old new (nothing old) (λ c d _ on. on_gains row message c d on) moved
+  pub so_far : (old new : D) → Moves m (CellStandsOn row) old new → Moves m (MayGain row message) old new
+  so_far old new moved = weaker m (λ c. Unit {0}) (CellStandsOn row) (MayGain row message) old new (nothing old) (λ c d _ on. on_gains row message c d on) moved
 
-  pub staged : (old mid new : D) → Moves m (StandsOn row) old mid → Moves m KeepsValue mid new → Moves m (StandsOn row) old new
+  pub staged : (old mid new : D) → Moves m (CellStandsOn row) old mid → Moves m KeepsValue mid new → Moves m (CellStandsOn row) old new
   staged old mid new wrote stage =
-      goes_on m (λ c. Unit {0}) (StandsOn row) KeepsValue (StandsOn row) old mid new (nothing old) (λ c d _ on. on) (λ c d e _ on keeps. on_after row c d e on (register_stands_on row d e keeps))
+      goes_on m (λ c. Unit {0}) (CellStandsOn row) KeepsValue (CellStandsOn row) old mid new (nothing old) (λ c d _ on. on) (λ c d e _ on keeps. on_after row c d e on (register_stands_on row d e keeps))
       wrote stage
 
   -- the slot is on the disk once the cell is
@@ -33,13 +33,13 @@ module _ {D : Type 0} (m : Meaning D) (row : SessionRow) (message : List ℕ) wh
       (each_both m (Selects parity first second) (InSlot row first message) mid selects has)
       (λ a b is turn. turn_gains row parity first second message a b is.0 is.1 turn) moved
 
-  pub stored : (old mid new : D) → Moves m (StandsOn row) old mid → Moves m (MayGain row message) mid new → Moves m (MayGain row message) old new
+  pub stored : (old mid new : D) → Moves m (CellStandsOn row) old mid → Moves m (MayGain row message) mid new → Moves m (MayGain row message) old new
   stored old mid new first second =
-      goes_on m (λ c. Unit {0}) (StandsOn row) (MayGain row message) (MayGain row message) old mid new (nothing old)
+      goes_on m (λ c. Unit {0}) (CellStandsOn row) (MayGain row message) (MayGain row message) old mid new (nothing old)
       (λ c d _ on. on_gains row message c d on) (λ c d e _ on gain. gain_after row message c d e on gain) first second
 
   -- the reading once all is written
-  pub gained : (parity first second : ℕ) (old mid new : List ℕ) → Selects parity first second old → StandsOn row old mid → InSlot row first message mid → SameOutside mid new
+  pub gained : (parity first second : ℕ) (old mid new : List ℕ) → Selects parity first second old → CellStandsOn row old mid → InSlot row first message mid → SameOutside mid new
       → value_of new ≡ (first + 1, 0) → Gains row message old new
   gained parity first second old mid new selects on has outside value = record {
     more = λ E b messages free stands.

@@ -54,7 +54,7 @@ pub record LowStands (row : SessionRow) (E b : ℕ) (messages : List (List ℕ))
   pub slots : (i : ℕ) → i < length messages → InSlot row (b + i) (slice_index_or messages i []) disk
 
 -- what stood for a count and messages that leave a slot free stands for them still
-pub record StandsOn (row : SessionRow) (old new : List ℕ) : Type 0 where
+pub record CellStandsOn (row : SessionRow) (old new : List ℕ) : Type 0 where
   pub same : (E b : ℕ) (messages : List (List ℕ)) → E + 1 ≤ b + row.capacity → LowStands row E b messages old
       → LowStands row E b messages new
 

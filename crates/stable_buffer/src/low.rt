@@ -1,11 +1,10 @@
 // The store of the low process: the messages that it has accepted.
 ghost use Rattle.std.specs.Prelude.{◌≡◌, ℕ, List, ◌+◌, ◌^◌, ◌<◌, ◌≤◌, false, length, IfOk, OnOk, OnErr, IfErr};
-ghost use Rattle.disk_model.specs.Disk.{Moves, Same, Settled, Leaves, Answers};
+ghost use Rattle.disk_model.specs.Disk.{Moves, Settled, Leaves, Answers};
 ghost use Rattle.pump_frame.specs.Rows.{IsLawfulRow};
-ghost use Rattle.stable_buffer.specs.Numbers.{length_at, message_at};
 ghost use Rattle.stable_buffer.specs.Low.{HasRanges};
-ghost use Rattle.stable_buffer.specs.Stands.{slot_of, slot_end, low_size, InSlot, LowStands, StandsOn, MayGain, Gains};
-ghost use Rattle.stable_buffer.specs.Stands.{StandsOrGains};
+ghost use Rattle.stable_buffer.specs.Stands.{slot_of, slot_end, low_size, InSlot, LowStands, CellStandsOn, MayGain};
+ghost use Rattle.stable_buffer.specs.Stands.{Gains, StandsOrGains};
 
 use crate::{Device, Register};
 use disk_model::Disk;
@@ -30,7 +29,8 @@ pub fn slot_place(row: &SessionRow, n: u64) -> u64
 impl<D: Disk> LowStore<D> {
     ghost use Rattle.std.specs.Borrow.{sem, Lends};
     ghost use Rattle.stable_buffer.specs.contracts.low.LowStore.{the_row};
-    ghost use Rattle.stable_buffer.specs.Low.{IsLowReady, HasRanges, StandsForCount, low_disk, low_with_disk};
+    ghost use Rattle.stable_buffer.specs.Low.{IsLowReady, MayStore, KeepsMessages, HasRead, HasRanges, StandsForCount};
+    ghost use Rattle.stable_buffer.specs.Low.{low_disk, low_with_disk};
     ghost use Rattle.stable_buffer.specs.Low.{low_made_coarse, low_count, low_row, low_is_open};
     ghost use Rattle.stable_buffer.specs.Register.{IsReady, register_disk, register_value};
 
@@ -110,7 +110,7 @@ impl<D: Disk> LowStore<D> {
         ensures row { low_row self.new ≡ low_row self.old }
         ensures slot { OnOk result (D.told.tells → InSlot (low_row self.old) (low_count self.old)
             payload.now (D.told.reading (low_disk self.new))) }
-        ensures moves { Moves D.told (StandsOn (low_row self.old)) (low_disk self.old) (low_disk self.new) }
+        ensures moves { Moves D.told (CellStandsOn (low_row self.old)) (low_disk self.old) (low_disk self.new) }
 
         ensures closed { OnErr result (low_is_open self.new ≡ false) }
         ensures answers { Answers D.told
@@ -125,9 +125,7 @@ impl<D: Disk> LowStore<D> {
 
     /// Stores a message, and gives its number.
     pub fn store(&mut self, payload: &Payload) -> Result<u64, Device>
-        requires ready { IsLowReady D.told self.old }
-        requires fits { length payload.now ≤ (low_row self.old).message }
-        requires below { low_count self.old < 2 ^ 48 }
+        requires { MayStore D.told self.old payload.now }
 
         ensures number { IfOk result (λ n. n ≡ low_count self.old) }
         ensures ready { OnOk result (IsLowReady D.told self.new) }
@@ -165,20 +163,9 @@ impl<D: Disk> LowStore<D> {
         requires stored { n < low_count self.old }
         requires kept { low_count self.old ≤ n + (low_row self.old).capacity }
 
-        ensures length { IfOk result (λ l. D.told.tells
-            → l ≡ length_at (D.told.reading (low_disk self.old)) (slot_of (low_row self.old) n)) }
-        ensures message { IfOk result (λ l. l ≤ (low_row self.old).message → D.told.tells
-            → into.new ≡ message_at (D.told.reading (low_disk self.old)) (slot_of (low_row self.old) n)) }
-        ensures fits { IfOk result (λ l. l ≤ (low_row self.old).message → length into.new ≡ l) }
-        ensures stands { IfOk result (λ l. l ≤ (low_row self.old).message → D.told.tells
-            → InSlot (low_row self.old) n into.new (D.told.reading (low_disk self.old))) }
-        ensures left { IfOk result (λ l. (low_row self.old).message < l → into.new ≡ into.old) }
-        ensures small { IfOk result (λ l. l < 2 ^ 16) }
-
+        ensures read { IfOk result (λ length. HasRead D.told self.old n length into.old into.new) }
         ensures ready { OnOk result (IsLowReady D.told self.new) }
-        ensures count { low_count self.new ≡ low_count self.old }
-        ensures row { low_row self.new ≡ low_row self.old }
-        ensures moves { Moves D.told Same (low_disk self.old) (low_disk self.new) }
+        ensures keeps { KeepsMessages D.told self.old self.new }
 
         ensures closed { OnErr result (low_is_open self.new ≡ false) }
         ensures answers { Answers D.told

@@ -9,7 +9,7 @@ use Rattle.stable_buffer.specs.Log.{RecvStands}
 use Rattle.pump_core.specs.World.{World}
 use Rattle.pump_core.specs.Events.{with_kept, pump_crashed, receiver_crashed}
 use Rattle.pump_core.specs.Lawful.{IsLawful}
-use Rattle.recovery.specs.Joint.{Opens as IsFound}
+use Rattle.recovery.specs.Joint.{OpensJointly as IsFound}
 use Rattle.script_reader.specs.Highs.{log_end, receiver_size}
 
 -- the accepted messages that are not removed
@@ -50,7 +50,7 @@ pub record Hold {D : Type 0} (m : Meaning D) (row : SessionRow) (low high recv :
 
 -- three readings that stand for one lawful world in which nothing is unfinished: no message that was
 -- accepted is lost, and the receiver has a prefix of them
-pub record Opens (row : SessionRow) (low high recv : List ℕ) : Type 0 where
+pub record DisksOpen (row : SessionRow) (low high recv : List ℕ) : Type 0 where
   pub world : World
   pub lawful : IsLawful world
   pub low_is : LowStands row (length world.accepted) world.removed (live_messages world) low
@@ -60,7 +60,7 @@ pub record Opens (row : SessionRow) (low high recv : List ℕ) : Type 0 where
 -- whatever crashes leave of the three disks opens
 abbrev pub CrashesOpen : {D : Type 0} → Meaning D → SessionRow → D → D → D → Type 0
 CrashesOpen m row low high recv = m.tells_images → (a b c : List ℕ)
-    → m.images low a → m.images high b → m.images recv c → Opens row a b c
+    → m.images low a → m.images high b → m.images recv c → DisksOpen row a b c
 
 -- ---- the disks that are handed back ----
 

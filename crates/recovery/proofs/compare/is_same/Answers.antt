@@ -18,9 +18,9 @@ returns-then-length-len g c =
       same = record {
         same = λ is. elim (false≢true is) [ ];
         other = λ _ told ms stand has.
-            let e = s.length told ∙ slot_length row c.requires.low.ranges.short c.args.n _ (m.reading c.args.low.now.register.disk) has in
+            let e = s.read.is told ∙ slot_length row c.requires.low.ranges.short c.args.n _ (m.reading c.args.low.now.register.disk) has in
             let short : c.in-Ok.length ≤ row.message = omega (arith, e, has.fits) in
-            omega (arith, s.fits short, c.len.ensures.value, c.if-length-len.true);
+            omega (arith, s.read.fits short, c.len.ensures.value, c.if-length-len.true);
       };
       device = tt;
       told = tt;
@@ -29,18 +29,18 @@ returns-then-length-len g c =
         receiver_called = inr (
           refl,
           (λ plan go.
-              let e = s.length (m.plan_tells plan) in
+              let e = s.read.is (m.plan_tells plan) in
               let short : c.in-Ok.length ≤ row.message = omega (arith, e, go.1) in
-              omega (arith, s.fits short, c.len.ensures.value, c.if-length-len.true)),
+              omega (arith, s.read.fits short, c.len.ensures.value, c.if-length-len.true)),
         );
       };
       called = λ is. elim (false≢true is) [ ];
       «open» = (s.ready.ready.is_open, c.requires.receiver.is_open);
       low = record {
         ready = λ _. s.ready;
-        count = s.count;
-        row = s.row;
-        moves = s.moves;
+        count = s.keeps.count;
+        row = s.keeps.row;
+        moves = s.keeps.moves;
       };
       receiver = record {
         ready = λ _. c.requires.receiver;
@@ -75,9 +75,9 @@ returns-in-Err g c =
       «open» = tt;
       low = record {
         ready = λ is_open. elim (false≢true (sym e.closed ∙ is_open)) [ ];
-        count = e.count;
-        row = e.row;
-        moves = e.moves;
+        count = e.keeps.count;
+        row = e.keeps.row;
+        moves = e.keeps.moves;
       };
       receiver = record {
         ready = λ _. c.requires.receiver;
@@ -97,7 +97,7 @@ returns-in-Err-message g c =
     let s = c.in-Ok.ensures in
     let e = c.in-Err-message.ensures in
     let short : l ≤ row.message = elim (cases_lt row.message l) [
-      | inl long ↦ absurd (omega (arith, ap length (s.left long ∙ c.default-stored.ensures), c.len.ensures.value, c.if-length-len.false, long))
+      | inl long ↦ absurd (omega (arith, ap length (s.read.left long ∙ c.default-stored.ensures), c.len.ensures.value, c.if-length-len.false, long))
       | inr le ↦ le
     ] in
     record {
@@ -114,16 +114,16 @@ returns-in-Err-message g c =
         low_called = calls_ok m _ _ _ _ s.answers _ (ap not s.ready.ready.is_open);
         receiver_called = inl (
           calls_err m _ _ _ _ e.answers (λ _. tt) _ (ap not e.closed),
-          (λ plan. (not_armed _ (s.answers.always plan), (let k = s.length (m.plan_tells plan) in omega (arith, k, short)))),
+          (λ plan. (not_armed _ (s.answers.always plan), (let k = s.read.is (m.plan_tells plan) in omega (arith, k, short)))),
         );
       };
       called = tt;
       «open» = tt;
       low = record {
         ready = λ _. s.ready;
-        count = s.count;
-        row = s.row;
-        moves = s.moves;
+        count = s.keeps.count;
+        row = s.keeps.row;
+        moves = s.keeps.moves;
       };
       receiver = record {
         ready = λ is_open. elim (false≢true (sym e.closed ∙ is_open)) [ ];
@@ -143,15 +143,15 @@ returns g c =
     let s = c.in-Ok.ensures in
     let e = c.in_default.ensures in
     let short : l ≤ row.message = elim (cases_lt row.message l) [
-      | inl long ↦ absurd (omega (arith, ap length (s.left long ∙ c.default-stored.ensures), c.len.ensures.value, c.if-length-len.false, long))
+      | inl long ↦ absurd (omega (arith, ap length (s.read.left long ∙ c.default-stored.ensures), c.len.ensures.value, c.if-length-len.false, long))
       | inr le ↦ le
     ] in
     record {
       same = record {
-        same = λ is told ms stand. subst (λ (x : List ℕ). InSlot row c.args.n x (m.reading c.args.low.now.register.disk)) (c.are_equal.ensures.equal is ∙ e.message told ms stand) (s.stands short told);
+        same = λ is told ms stand. subst (λ (x : List ℕ). InSlot row c.args.n x (m.reading c.args.low.now.register.disk)) (c.are_equal.ensures.equal is ∙ e.message told ms stand) (s.read.stands short told);
         other = λ is told ms stand has.
             let one : c.slot.new.into ≡ c.message.new.into =
-            slot_one row c.requires.low.ranges.short c.args.n _ _ (m.reading c.args.low.now.register.disk) (s.stands short told) has ∙ sym (e.message told ms stand) in
+            slot_one row c.requires.low.ranges.short c.args.n _ _ (m.reading c.args.low.now.register.disk) (s.read.stands short told) has ∙ sym (e.message told ms stand) in
             c.are_equal.ensures.unequal is one;
       };
       device = tt;
@@ -160,19 +160,19 @@ returns g c =
         low_called = calls_ok m _ _ _ _ s.answers _ (ap not s.ready.ready.is_open);
         receiver_called = inl (
           calls_ok m _ _ _ _ e.answers _ (ap not e.ready.is_open),
-          (λ plan. (not_armed _ (s.answers.always plan), (let k = s.length (m.plan_tells plan) in omega (arith, k, short)))),
+          (λ plan. (not_armed _ (s.answers.always plan), (let k = s.read.is (m.plan_tells plan) in omega (arith, k, short)))),
         );
       };
       called = λ is. (
         calls_ok m _ _ _ _ e.answers false refl,
-        (λ plan. (not_armed _ (s.answers.always plan), (let k = s.length (m.plan_tells plan) in omega (arith, k, short)))),
+        (λ plan. (not_armed _ (s.answers.always plan), (let k = s.read.is (m.plan_tells plan) in omega (arith, k, short)))),
       );
       «open» = (s.ready.ready.is_open, e.ready.is_open);
       low = record {
         ready = λ _. s.ready;
-        count = s.count;
-        row = s.row;
-        moves = s.moves;
+        count = s.keeps.count;
+        row = s.keeps.row;
+        moves = s.keeps.moves;
       };
       receiver = record {
         ready = λ _. e.ready;

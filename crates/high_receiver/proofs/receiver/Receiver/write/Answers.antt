@@ -5,7 +5,7 @@ use Rattle.disk_model.proofs.Run.{weaker}
 use Rattle.stable_buffer.specs.Register.{MayTurnTo, Selects, SameOutside, value_of}
 use Rattle.stable_buffer.specs.Stands.{spelled}
 use Rattle.stable_buffer.proofs.Cells.{value-selects}
-use Rattle.high_receiver.specs.Steps.{MayTake, StandsOn}
+use Rattle.high_receiver.specs.Steps.{MayTake, LogStandsOn}
 use Rattle.high_receiver.proofs.Appends.{StandsAt, torn_on, at_written, end_within}
 use Rattle.high_receiver.proofs.Calls.{so_far, staged, at_settled, turned, stored, taken, stored_during}
 use Rattle.high_receiver.proofs.Walk.{failed}
@@ -21,8 +21,8 @@ returns-in_err-write_message g c =
     let short = c.requires.ready.short in
     let end : c.value-count.result.1 ≡ r.second = ap (λ (v : ℕ × ℕ). v.1) c.value-count.ensures in
     let w = c.write_message.new.self in
-    let wrote : Moves m (StandsOn row) r.disk w.disk =
-    weaker m (Selects r.parity r.first r.second) (Torn c.value-count.result.1 (2 + length message)) (StandsOn row) r.disk w.disk c.requires.ready.ready.each
+    let wrote : Moves m (LogStandsOn row) r.disk w.disk =
+    weaker m (Selects r.parity r.first r.second) (Torn c.value-count.result.1 (2 + length message)) (LogStandsOn row) r.disk w.disk c.requires.ready.ready.each
     (λ a b is torn. torn_on row r.parity r.first r.second (2 + length message) a b is (subst (λ k. Torn k (2 + length message) a b) end torn)) c.write_message.ensures.moves in
     let e = c.in_err-write_message.ensures in
     let moves : Moves m (MayTake row message) r.disk w.disk = so_far m row message r.disk w.disk wrote in
@@ -56,11 +56,11 @@ returns-in_err-stage g c =
     let short = c.requires.ready.short in
     let end : c.value-count.result.1 ≡ r.second = ap (λ (v : ℕ × ℕ). v.1) c.value-count.ensures in
     let w = c.write_message.new.self in
-    let wrote : Moves m (StandsOn row) r.disk w.disk =
-    weaker m (Selects r.parity r.first r.second) (Torn c.value-count.result.1 (2 + length message)) (StandsOn row) r.disk w.disk c.requires.ready.ready.each
+    let wrote : Moves m (LogStandsOn row) r.disk w.disk =
+    weaker m (Selects r.parity r.first r.second) (Torn c.value-count.result.1 (2 + length message)) (LogStandsOn row) r.disk w.disk c.requires.ready.ready.each
     (λ a b is torn. torn_on row r.parity r.first r.second (2 + length message) a b is (subst (λ k. Torn k (2 + length message) a b) end torn)) c.write_message.ensures.moves in
     let q = c.stage.new.self in
-    let stood : Moves m (StandsOn row) r.disk q.disk = staged m row message r.disk w.disk q.disk wrote c.stage.ensures.moves in
+    let stood : Moves m (LogStandsOn row) r.disk q.disk = staged m row message r.disk w.disk q.disk wrote c.stage.ensures.moves in
     let a = c.in_ok-write_message.ensures.answers in
     let e = c.in_err-stage.ensures in
     let moves : Moves m (MayTake row message) r.disk q.disk = so_far m row message r.disk q.disk stood in
@@ -94,11 +94,11 @@ returns-in_err-commit g c =
     let short = c.requires.ready.short in
     let end : c.value-count.result.1 ≡ r.second = ap (λ (v : ℕ × ℕ). v.1) c.value-count.ensures in
     let w = c.write_message.new.self in
-    let wrote : Moves m (StandsOn row) r.disk w.disk =
-    weaker m (Selects r.parity r.first r.second) (Torn c.value-count.result.1 (2 + length message)) (StandsOn row) r.disk w.disk c.requires.ready.ready.each
+    let wrote : Moves m (LogStandsOn row) r.disk w.disk =
+    weaker m (Selects r.parity r.first r.second) (Torn c.value-count.result.1 (2 + length message)) (LogStandsOn row) r.disk w.disk c.requires.ready.ready.each
     (λ a b is torn. torn_on row r.parity r.first r.second (2 + length message) a b is (subst (λ k. Torn k (2 + length message) a b) end torn)) c.write_message.ensures.moves in
     let q = c.stage.new.self in
-    let stood : Moves m (StandsOn row) r.disk q.disk = staged m row message r.disk w.disk q.disk wrote c.stage.ensures.moves in
+    let stood : Moves m (LogStandsOn row) r.disk q.disk = staged m row message r.disk w.disk q.disk wrote c.stage.ensures.moves in
     let was = c.in_ok-stage.ensures.staged in
     let size : c.len-length.result ≡ length message = c.len-length.ensures.value in
     let count : c.value-count.result.0 ≡ r.first = ap (λ (v : ℕ × ℕ). v.0) c.value-count.ensures in
@@ -148,11 +148,11 @@ returns g c =
     let short = c.requires.ready.short in
     let end : c.value-count.result.1 ≡ r.second = ap (λ (v : ℕ × ℕ). v.1) c.value-count.ensures in
     let w = c.write_message.new.self in
-    let wrote : Moves m (StandsOn row) r.disk w.disk =
-    weaker m (Selects r.parity r.first r.second) (Torn c.value-count.result.1 (2 + length message)) (StandsOn row) r.disk w.disk c.requires.ready.ready.each
+    let wrote : Moves m (LogStandsOn row) r.disk w.disk =
+    weaker m (Selects r.parity r.first r.second) (Torn c.value-count.result.1 (2 + length message)) (LogStandsOn row) r.disk w.disk c.requires.ready.ready.each
     (λ a b is torn. torn_on row r.parity r.first r.second (2 + length message) a b is (subst (λ k. Torn k (2 + length message) a b) end torn)) c.write_message.ensures.moves in
     let q = c.stage.new.self in
-    let stood : Moves m (StandsOn row) r.disk q.disk = staged m row message r.disk w.disk q.disk wrote c.stage.ensures.moves in
+    let stood : Moves m (LogStandsOn row) r.disk q.disk = staged m row message r.disk w.disk q.disk wrote c.stage.ensures.moves in
     let was = c.in_ok-stage.ensures.staged in
     let size : c.len-length.result ≡ length message = c.len-length.ensures.value in
     let count : c.value-count.result.0 ≡ r.first = ap (λ (v : ℕ × ℕ). v.0) c.value-count.ensures in

@@ -22,12 +22,13 @@ returns-in-Forward g c =
     let head = c.offer_hand.new.head in
     let b = c.begin_into.ensures in
     let e = c.offer_hand.ensures in
+    let rest = e.rest in
     let hand = c.in-Forward.ensures.hand in
     let begun = c.in-Forward.ensures.begins in
     let d = begun.0 in
     let step = begun.1 in
     let up : is_down r ≡ false = hand.3 in
-    let silent = ap (option_map (frame_of (row_of p).id)) e.reply in
+    let silent = ap (option_map (frame_of (row_of p).id)) rest.reply in
     record {
       looks = (
         d,
@@ -35,21 +36,21 @@ returns-in-Forward g c =
           looks = subst (λ (row : SessionRow). Looks (StandsFor p) q (row_of p) (look_of c.args.moment c.args.word a d head.feedback) (look_with row head)) b.row
               (look_from (λ h. AsksFor r h c.args.moment c.args.word a d) (StandsFor p) _ _ _ _ _ b.row step.begins.1 (e.looks c.args.moment c.args.word a d));
           keeps = step.keeps;
-          count = e.next ∙ step.count;
-          falls = goes_on (is_down r) (is_down q) _ up e.up step.falls;
+          count = rest.next ∙ step.count;
+          falls = goes_on (is_down r) (is_down q) _ up rest.up step.falls;
           refuses = λ is. (let none = sym silent ∙ is in absurd (cc));
         },
       );
-      bounds = e.bounds;
-      store = λ _. (let s = b.store up in record { ready = s.ready; count = s.count ∙ sym e.next; row = s.row ∙ sym e.row });
+      bounds = rest.bounds;
+      store = λ _. (let s = b.store up in record { ready = s.ready; count = s.count ∙ sym rest.next; row = s.row ∙ sym rest.row });
       images = b.images;
       still = b.still;
       silent = λ _. silent;
       acknowledged = λ n is. (let none = sym silent ∙ is in absurd (cc));
-      lawful = subst (λ o. IfSome o IsLawfulReply) (sym e.reply) tt;
-      hand = e.hand ∙ ap (λ (o : Option Item). hand_passed o head.feedback) (hand.1 ∙ sym hand.0) ∙ sym (ap (hand_stored (hand_passed (hand_of p) head.feedback) a) e.stored);
-      row = e.row ∙ b.row;
-      last = e.last ∙ b.last;
+      lawful = subst (λ o. IfSome o IsLawfulReply) (sym rest.reply) tt;
+      hand = rest.hand ∙ ap (λ (o : Option Item). hand_passed o head.feedback) (hand.1 ∙ sym hand.0) ∙ sym (ap (hand_stored (hand_passed (hand_of p) head.feedback) a) rest.stored);
+      row = rest.row ∙ b.row;
+      last = rest.last ∙ b.last;
       shape = e.shape;
       place = e.place;
       ends = λ l h fit.

@@ -41,16 +41,9 @@ returns-in_err-length g c =
     let (device, was, same) = err_from_is_err_and c.from_residual.result c.from_residual.ensures.1 in
     let is = was ∙ ap (λ d. Err d) same in
     record {
-      length = rw (is) tt;
-      message = rw (is) tt;
-      fits = rw (is) tt;
-      stands = rw (is) tt;
-      left = rw (is) tt;
-      small = rw (is) tt;
+      read = rw (is) tt;
       ready = rw (is) tt;
-      count = ap (λ (v : ℕ × ℕ). v.0) e.value;
-      row = refl;
-      moves = e.moves;
+      keeps = record { count = ap (λ (v : ℕ × ℕ). v.0) e.value; row = refl; moves = e.moves };
       closed = rw (is) e.closed;
       answers = record {
         counts = a.counts;
@@ -70,16 +63,16 @@ returns-then-length-self g c =
     let e = c.in_ok-length.ensures in
     let a = e.answers in
     record {
-      length = λ told. e.length told ∙ ap (λ p. length_at (m.reading s.register.disk) p) c.slot_place-at.ensures.place;
-      message = λ le. absurd (omega (arith, le, c.if-length-self.true));
-      fits = λ le. absurd (omega (arith, le, c.if-length-self.true));
-      stands = λ le. absurd (omega (arith, le, c.if-length-self.true));
-      left = λ _. refl;
-      small = e.small;
+      read = record {
+        small = e.small;
+        is = λ told. e.length told ∙ ap (λ p. length_at (m.reading s.register.disk) p) c.slot_place-at.ensures.place;
+        message = λ le. absurd (omega (arith, le, c.if-length-self.true));
+        stands = λ le. absurd (omega (arith, le, c.if-length-self.true));
+        fits = λ le. absurd (omega (arith, le, c.if-length-self.true));
+        left = λ _. refl;
+      };
       ready = still_ready m s c.read_length.new.self c.requires.ready e.ready e.value e.moves;
-      count = ap (λ (v : ℕ × ℕ). v.0) e.value;
-      row = refl;
-      moves = e.moves;
+      keeps = record { count = ap (λ (v : ℕ × ℕ). v.0) e.value; row = refl; moves = e.moves };
       closed = tt;
       answers = record {
         counts = a.counts;
@@ -104,16 +97,13 @@ returns-in_err-read_beside g c =
     let (device, was, same) = err_from_is_err_and c.from_residual-in_err-read_beside.result c.from_residual-in_err-read_beside.ensures.1 in
     let is = was ∙ ap (λ d. Err d) same in
     record {
-      length = rw (is) tt;
-      message = rw (is) tt;
-      fits = rw (is) tt;
-      stands = rw (is) tt;
-      left = rw (is) tt;
-      small = rw (is) tt;
+      read = rw (is) tt;
       ready = rw (is) tt;
-      count = ap (λ (v : ℕ × ℕ). v.0) (k.value ∙ e.value);
-      row = refl;
-      moves = goes_on_same m Same _ _ _ e.moves k.moves;
+      keeps = record {
+        count = ap (λ (v : ℕ × ℕ). v.0) (k.value ∙ e.value);
+        row = refl;
+        moves = goes_on_same m Same _ _ _ e.moves k.moves;
+      };
       closed = rw (is) k.closed;
       answers = record {
         counts = omega (arith, b.counts, a.counts);
@@ -151,16 +141,20 @@ returns g c =
     taken_message l _ c.read_beside.new.into _ c.set.new.self (m.reading c.read_length.new.self.disk) reading at c.set.ensures.value c.read_beside.ensures.size size (k.bytes told) (e.moves.reads told) (found told)
     ∙ ap (λ p. message_at reading p) c.slot_place-at.ensures.place in
     record {
-      length = placed;
-      message = λ le. message;
-      fits = λ le. whole;
-      stands = λ le told. in_slot s.row c.args.n l c.set.new.self reading le whole (placed told) (subst (λ p. big_bytes 2 l ≡ take 2 (drop p reading)) c.slot_place-at.ensures.place (e.spells told)) (message told);
-      left = λ more. absurd (omega (arith, more, c.if-length-self.false));
-      small = e.small;
+      read = record {
+        small = e.small;
+        is = placed;
+        message = λ le. message;
+        stands = λ le told. in_slot s.row c.args.n l c.set.new.self reading le whole (placed told) (subst (λ p. big_bytes 2 l ≡ take 2 (drop p reading)) c.slot_place-at.ensures.place (e.spells told)) (message told);
+        fits = λ le. whole;
+        left = λ more. absurd (omega (arith, more, c.if-length-self.false));
+      };
       ready = still_ready m s c.read_beside.new.self c.requires.ready k.ready (k.value ∙ e.value) (goes_on_same m Same _ _ _ e.moves k.moves);
-      count = ap (λ (v : ℕ × ℕ). v.0) (k.value ∙ e.value);
-      row = refl;
-      moves = goes_on_same m Same _ _ _ e.moves k.moves;
+      keeps = record {
+        count = ap (λ (v : ℕ × ℕ). v.0) (k.value ∙ e.value);
+        row = refl;
+        moves = goes_on_same m Same _ _ _ e.moves k.moves;
+      };
       closed = tt;
       answers = record {
         counts = omega (arith, b.counts, a.counts);

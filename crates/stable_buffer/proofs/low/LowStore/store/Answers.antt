@@ -2,7 +2,7 @@ use Rattle.std.proofs.Common.{◌≡◌, ℕ, ◌+◌, sym, ◌∙◌, ap, subst
 use Rattle.std.proofs.lemmas.Grind.{common_steps}
 use Rattle.disk_model.specs.Disk.{Moves, Each}
 use Rattle.stable_buffer.specs.Register.{MayTurnTo, Selects, SameOutside, value_of}
-use Rattle.stable_buffer.specs.Stands.{InSlot, StandsOn}
+use Rattle.stable_buffer.specs.Stands.{InSlot, CellStandsOn}
 use Rattle.pump_frame.specs.Rows.{IsLawfulRow}
 use Rattle.stable_buffer.specs.Low.{HasRanges, StandsForCount}
 use Rattle.pump_frame.specs.declared.row.SessionRow.{SessionRow}
@@ -21,7 +21,7 @@ returns-in_err-stage-clause-moves g c =
     let r = s.register in
     let message = c.args.payload.now in
     let wrote = c.write_slot.ensures.moves in
-    let stood : Moves m (StandsOn row) r.disk c.stage.new.self.disk = staged m row message r.disk c.write_slot.new.self.register.disk c.stage.new.self.disk wrote c.stage.ensures.moves in
+    let stood : Moves m (CellStandsOn row) r.disk c.stage.new.self.disk = staged m row message r.disk c.write_slot.new.self.register.disk c.stage.new.self.disk wrote c.stage.ensures.moves in
     so_far m row message r.disk c.stage.new.self.disk stood
 
 pub returns-in_err-commit-clause-moves : goal.returns-in_err-commit-clause-moves
@@ -32,7 +32,7 @@ returns-in_err-commit-clause-moves g c =
     let r = s.register in
     let message = c.args.payload.now in
     let wrote = c.write_slot.ensures.moves in
-    let stood : Moves m (StandsOn row) r.disk c.stage.new.self.disk = staged m row message r.disk c.write_slot.new.self.register.disk c.stage.new.self.disk wrote c.stage.ensures.moves in
+    let stood : Moves m (CellStandsOn row) r.disk c.stage.new.self.disk = staged m row message r.disk c.write_slot.new.self.register.disk c.stage.new.self.disk wrote c.stage.ensures.moves in
     let q = c.stage.new.self in
     let was = c.in_ok-stage.ensures.staged in
     let number : c.value-number.result.0 ≡ r.first = ap (λ (v : ℕ × ℕ). v.0) c.value-number.ensures in
@@ -52,7 +52,7 @@ returns-clause-moves g c =
     let r = s.register in
     let message = c.args.payload.now in
     let wrote = c.write_slot.ensures.moves in
-    let stood : Moves m (StandsOn row) r.disk c.stage.new.self.disk = staged m row message r.disk c.write_slot.new.self.register.disk c.stage.new.self.disk wrote c.stage.ensures.moves in
+    let stood : Moves m (CellStandsOn row) r.disk c.stage.new.self.disk = staged m row message r.disk c.write_slot.new.self.register.disk c.stage.new.self.disk wrote c.stage.ensures.moves in
     let q = c.stage.new.self in
     let was = c.in_ok-stage.ensures.staged in
     let number : c.value-number.result.0 ≡ r.first = ap (λ (v : ℕ × ℕ). v.0) c.value-number.ensures in
@@ -72,7 +72,7 @@ returns-clause-gained g c = λ told.
     let r = s.register in
     let message = c.args.payload.now in
     let wrote = c.write_slot.ensures.moves in
-    let stood : Moves m (StandsOn row) r.disk c.stage.new.self.disk = staged m row message r.disk c.write_slot.new.self.register.disk c.stage.new.self.disk wrote c.stage.ensures.moves in
+    let stood : Moves m (CellStandsOn row) r.disk c.stage.new.self.disk = staged m row message r.disk c.write_slot.new.self.register.disk c.stage.new.self.disk wrote c.stage.ensures.moves in
     let q = c.stage.new.self in
     let was = c.in_ok-stage.ensures.staged in
     let number : c.value-number.result.0 ≡ r.first = ap (λ (v : ℕ × ℕ). v.0) c.value-number.ensures in

@@ -4,7 +4,7 @@ use Rattle.std.proofs.lemmas.Result.{on_ok_weaker}
 use Rattle.disk_model.specs.Disk.{Torn, IsWritten}
 use Rattle.disk_model.proofs.Run.{weaker}
 use Rattle.stable_buffer.specs.Register.{Selects}
-use Rattle.stable_buffer.specs.Stands.{StandsOn, slot_of, spelled}
+use Rattle.stable_buffer.specs.Stands.{CellStandsOn, slot_of, spelled}
 use Rattle.stable_buffer.proofs.Slots.{slot_written, slot_torn_stands_on}
 use Rattle.stable_buffer.proofs.low.LowStore.write_slot.Goals as goal
 
@@ -29,7 +29,7 @@ returns-clause-moves g c =
     let r = s.register in
     let n = 2 + length c.args.payload.now in
     let place : c.slot_place-at.result ≡ slot_of s.row r.first = c.slot_place-at.ensures.place ∙ ap (λ (v : ℕ × ℕ). slot_of s.row v.0) c.value-number.ensures in
-    weaker m (Selects r.parity r.first r.second) (Torn c.slot_place-at.result n) (StandsOn s.row) r.disk c.write_message.new.self.disk c.requires.ready.ready.each
+    weaker m (Selects r.parity r.first r.second) (Torn c.slot_place-at.result n) (CellStandsOn s.row) r.disk c.write_message.new.self.disk c.requires.ready.ready.each
     (λ a b is' torn. slot_torn_stands_on s.row r.parity r.first r.second n a b c.requires.ready.ranges.some (omega (arith, c.requires.fits)) is'
     (subst (λ p. Torn p n a b) place torn))
     c.write_message.ensures.moves

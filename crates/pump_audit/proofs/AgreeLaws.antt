@@ -35,8 +35,8 @@ use Rattle.pump_audit.specs.declared.entry.Note.TheVariants as notes
 use Rattle.pump_audit.specs.declared.entry.Entry.{Entry}
 use Rattle.pump_audit.specs.declared.entry.Entry.TheVariants as entries
 use Rattle.pump_audit.specs.declared.form.Form.{Form}
-use Rattle.pump_audit.specs.declared.form.Place.{Place}
-use Rattle.pump_audit.specs.declared.form.Place.TheVariants as places
+use Rattle.pump_audit.specs.declared.form.RecordPlace.{RecordPlace}
+use Rattle.pump_audit.specs.declared.form.RecordPlace.TheVariants as places
 use Rattle.pump_audit.specs.Agreeing.{offered_by, told_of, item_in, items_in, side_of}
 use Rattle.pump_audit.specs.Auditing.{history_in}
 use Rattle.pump_audit.specs.Comparing.{ItemTold, offered_bytes, uncounted, item_of, Lists, SideOf, BeginsSide, ArePair, separator, same_told, same_bool, unlike, AreAlike, SameOpening, joined as side_joined}
@@ -284,7 +284,7 @@ came_lawful l (coming.Frame f) p = p
 came_lawful l coming.Bad p = tt
 came_lawful l coming.Gone p = tt
 
-is_placed : (f : Form) (b : Bool) (p : Place) → is_some (at_place f b p) ≡ true → (b ≡ true) × (at_place f b p ≡ Some (record { session = f.session; place = p }))
+is_placed : (f : Form) (b : Bool) (p : RecordPlace) → is_some (at_place f b p) ≡ true → (b ≡ true) × (at_place f b p ≡ Some (record { session = f.session; place = p }))
 is_placed f true p e = (refl, refl)
 is_placed f false p e = absurd (cc)
 

@@ -32,8 +32,8 @@ use Rattle.pump_audit.specs.declared.entry.LookLine.{LookLine}
 use Rattle.pump_audit.specs.declared.claims.Claims.{Claims}
 use Rattle.pump_audit.specs.declared.entry.Note.{Note}
 use Rattle.pump_audit.specs.declared.entry.Note.TheVariants as notes
-use Rattle.pump_audit.specs.declared.form.Place.{Place}
-use Rattle.pump_audit.specs.declared.form.Place.TheVariants as places
+use Rattle.pump_audit.specs.declared.form.RecordPlace.{RecordPlace}
+use Rattle.pump_audit.specs.declared.form.RecordPlace.TheVariants as places
 use Rattle.pump_audit.specs.declared.life.Life.{Life}
 use Rattle.pump_audit.specs.declared.state.Audit.{Audit}
 use Rattle.pump_audit.specs.Auditing.{history_in, owed_in, LivesIn, MeetsAt, Held, Audits, LookIs, NoteIs, EntryIs, TextIs, EndIs, IsEnded, form_of_audit}
@@ -126,7 +126,7 @@ pub none_owed : (owed : Option Reply) → is_some owed ≡ false → owed ≡ No
 none_owed None e = refl
 none_owed (Some r) e = absurd (cc)
 
-looks_meet : (p : Place) (row : SessionRow) (times : List ℕ) (pairs : List Claim) (met : ℕ) → takes_looks p ≡ true → MeetsAt p row times pairs met → (met ≡ 0) × (times ≡ [])
+looks_meet : (p : RecordPlace) (row : SessionRow) (times : List ℕ) (pairs : List Claim) (met : ℕ) → takes_looks p ≡ true → MeetsAt p row times pairs met → (met ≡ 0) × (times ≡ [])
 looks_meet places.Opening row times pairs met e h = h
 looks_meet places.Looks row times pairs met e h = h
 looks_meet places.Times row times pairs met e h = absurd (cc)
@@ -162,7 +162,7 @@ module _ (a : Audit) (r : Record) (was : Audits a r) (l : LookLine) where
       let line : a.lines + 1 ≡ r.lines + 1 = ap (λ n. n + 1) was.counts.lines in
       let claims = subst (λ (n : ℕ). Keeps (claims_of f n ++ r.claims) b.claims.pairs.items) line (keeps r.claims was.held.keeps) in
       let falls = subst (λ (n : ℕ). Fell (claims_of f n ++ r.claims) b.claims.greatest b.claims.fall) line (fell r.claims was.held.fell) in
-      let meets = looks_meet a.place r.row r.times a.claims.pairs.items a.claims.met place (subst (λ (p : Place). MeetsAt p r.row r.times a.claims.pairs.items a.claims.met) (sym was.counts.place) was.held.meets) in (
+      let meets = looks_meet a.place r.row r.times a.claims.pairs.items a.claims.met place (subst (λ (p : RecordPlace). MeetsAt p r.row r.times a.claims.pairs.items a.claims.met) (sym was.counts.place) was.held.meets) in (
         f,
         look_goes f lets,
         life.replies,
@@ -286,7 +286,7 @@ module _ (a : Audit) (r : Record) (was : Audits a r) where
     fell = was.held.fell;
     holds = was.held.holds;
     averaging = was.held.averaging;
-    meets = looks_meet a.place r.row r.times a.claims.pairs.items a.claims.met place (subst (λ (p : Place). MeetsAt p r.row r.times a.claims.pairs.items a.claims.met) (sym was.counts.place) was.held.meets);
+    meets = looks_meet a.place r.row r.times a.claims.pairs.items a.claims.met place (subst (λ (p : RecordPlace). MeetsAt p r.row r.times a.claims.pairs.items a.claims.met) (sym was.counts.place) was.held.meets);
   }
 
   -- ---- times ----
@@ -303,7 +303,7 @@ module _ (a : Audit) (r : Record) (was : Audits a r) where
       first [] = tt
       first (p ∷ pairs) = inl (omega arith)
 
-  times_meet : (p : Place) (pairs : List Claim) (met : ℕ) → takes_times p ≡ true → MeetsAt p r.row r.times pairs met → Meets (averaging_of r.row) r.times (length r.times) pairs met
+  times_meet : (p : RecordPlace) (pairs : List Claim) (met : ℕ) → takes_times p ≡ true → MeetsAt p r.row r.times pairs met → Meets (averaging_of r.row) r.times (length r.times) pairs met
   times_meet places.Opening pairs met e h = new_meets r.times pairs met h.0 h.1
   times_meet places.Looks pairs met e h = new_meets r.times pairs met h.0 h.1
   times_meet places.Times pairs met e h = h
@@ -318,7 +318,7 @@ module _ (a : Audit) (r : Record) (was : Audits a r) where
   met_now count average b place counted averaged meets =
       let n = counted r.times was.held.holds in
       let v : average ≡ average_of (averaging_of r.row) r.times = averaged r.times was.held.holds ∙ ap (λ w. average_of w r.times) was.held.averaging in
-      let now = times_meet a.place a.claims.pairs.items a.claims.met place (subst (λ (p : Place). MeetsAt p r.row r.times a.claims.pairs.items a.claims.met) (sym was.counts.place) was.held.meets) in
+      let now = times_meet a.place a.claims.pairs.items a.claims.met place (subst (λ (p : RecordPlace). MeetsAt p r.row r.times a.claims.pairs.items a.claims.met) (sym was.counts.place) was.held.meets) in
       subst (λ (k : ℕ). Meets (averaging_of r.row) r.times (k + 1) b.pairs.items b.met) n
       (meets (averaging_of r.row) r.times n v (subst (λ (k : ℕ). Meets (averaging_of r.row) r.times k a.claims.pairs.items a.claims.met) (sym n) now))
 
@@ -353,7 +353,7 @@ tells_none (notes.Took count) other = refl
 tells_none (notes.End accepted removed) other = refl
 
 -- a line that has a place behind it may stand here
-pub may_stand : (f : Form) (test : Bool) (p : Place) → is_some (at_place f test p) ≡ true → test ≡ true
+pub may_stand : (f : Form) (test : Bool) (p : RecordPlace) → is_some (at_place f test p) ≡ true → test ≡ true
 may_stand f true p some = refl
 may_stand f false p some = absurd (cc)
 
@@ -385,7 +385,7 @@ module _ (a : Audit) (r : Record) (was : Audits a r) where
   own_end : has_end r ≡ has_end_at a.place
   own_end = ap has_end_at (sym was.counts.place)
 
-  met_at_end : (p : Place) (pairs : List Claim) (met : ℕ) → has_end_at p ≡ true → MeetsAt p r.row r.times pairs met → Meets (averaging_of r.row) r.times (length r.times + 1) pairs met
+  met_at_end : (p : RecordPlace) (pairs : List Claim) (met : ℕ) → has_end_at p ≡ true → MeetsAt p r.row r.times pairs met → Meets (averaging_of r.row) r.times (length r.times + 1) pairs met
   met_at_end places.End pairs met e h = h
   met_at_end places.Opening pairs met e h = absurd (cc)
   met_at_end places.Looks pairs met e h = absurd (cc)

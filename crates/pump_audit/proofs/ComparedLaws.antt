@@ -6,7 +6,7 @@ use Rattle.pump_audit.specs.declared.compared.Compared.{Compared}
 use Rattle.pump_audit.specs.declared.compared.Compared.TheVariants.{Agree, Differ, NotRecord}
 use Rattle.pump_audit.specs.declared.entry.Entry.{Entry}
 use Rattle.pump_audit.specs.declared.entry.Entry.TheVariants as entries
-use Rattle.pump_audit.specs.declared.form.Place.{Place}
+use Rattle.pump_audit.specs.declared.form.RecordPlace.{RecordPlace}
 use Rattle.pump_audit.specs.Comparing.{ItemTold, SideTold, form_in, lines_in, with_entry, Lists, SideOf, joined, BeginsSide, separator, EndsSide, BreaksSide, AreSide, BreaksAt, ArePair, AreAlike, DifferAt, SidesAre, IsCompared}
 use Rattle.pump_audit.specs.Entries.{IsEntry}
 use Rattle.pump_audit.specs.Places.{behind}
@@ -16,7 +16,7 @@ use Rattle.pump_audit.proofs.Writing.{ends_append, one_more}
 
 -- ---- lines ----
 
-entry_lines : (s : SideTold) (e : Entry) (p : Place) → (with_entry s e p).lines ≡ s.lines + 1
+entry_lines : (s : SideTold) (e : Entry) (p : RecordPlace) → (with_entry s e p).lines ≡ s.lines + 1
 entry_lines s (entries.Opening row next is_held) p = refl
 entry_lines s (entries.Coarse session) p = refl
 entry_lines s (entries.Look l) p = refl

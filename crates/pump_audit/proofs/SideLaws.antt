@@ -12,18 +12,18 @@ use Rattle.pump_audit.specs.declared.compared.Compared.TheVariants.{Agree, Diffe
 use Rattle.pump_audit.specs.declared.entry.Entry.{Entry}
 use Rattle.pump_audit.specs.declared.entry.Entry.TheVariants as entries
 use Rattle.pump_audit.specs.declared.form.Form.{Form}
-use Rattle.pump_audit.specs.declared.form.Place.{Place}
+use Rattle.pump_audit.specs.declared.form.RecordPlace.{RecordPlace}
 use Rattle.pump_audit.specs.declared.side.Item.{Item}
 use Rattle.pump_audit.specs.declared.side.Opened.{Opened}
 use Rattle.pump_audit.specs.declared.side.Side.{Side}
 use Rattle.pump_audit.specs.Comparing.{ItemTold, SideTold, form_of, with_entry, same_bool, unlike, AreAlike, DifferAt, SameOpening, SidesAre}
 use Rattle.pump_audit.specs.Entries.{IsEntry}
 use Rattle.pump_audit.specs.Places.{behind_line}
-use Rattle.pump_audit.specs.Siding.{tells, AlikeSoFar, MatchesTo, Opens, Stands, form_of_side, GoesOnBy, has_same_row, has_same_opening}
+use Rattle.pump_audit.specs.Siding.{tells, AlikeSoFar, MatchesTo, SideOpens, Stands, form_of_side, GoesOnBy, has_same_row, has_same_opening}
 
 -- ---- one more line ----
 
-lines_more : (s : SideTold) (e : Entry) (place : Place) → (with_entry s e place).lines ≡ s.lines + 1
+lines_more : (s : SideTold) (e : Entry) (place : RecordPlace) → (with_entry s e place).lines ≡ s.lines + 1
 lines_more s (entries.Opening row next is_held) place = refl
 lines_more s (entries.Coarse session) place = refl
 lines_more s (entries.Look line) place = refl
@@ -171,7 +171,7 @@ row_again a =
       bool_again a.coarse,
     ) refl
 
-module _ (v w : Opened) (a b : SideTold) (sv : Opens v a) (sw : Opens w b) where
+module _ (v w : Opened) (a b : SideTold) (sv : SideOpens v a) (sw : SideOpens w b) where
   opening_same : has_same_opening v w ≡ true → SameOpening a b
   opening_same h =
       let p = and_parts (has_same_row v.row w.row && v.next == w.next) (same_bool v.is_held w.is_held) h in

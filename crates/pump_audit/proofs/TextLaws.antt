@@ -1,11 +1,13 @@
--- Lines of a stream, bytes that begin with none, and bytes that are read ahead.
-use Rattle.std.proofs.Common.{◌≡◌, ◌≢◌, ℕ, zero, suc, ◌==◌, ◌+◌, ◌<◌, ◌≤◌, false, List, [], ◌∷◌, ◌++◌, length, drop, Option, Some, None, IfSome, refl, sym, ap, ◌∙◌, subst, append_assoc, append-nil, arith, length-append}
-use Rattle.std.proofs.KnownBytes.{Consumes-trans}
+-- Lines of a stream, and bytes that begin with none.
+use Rattle.std.proofs.Common.{◌≡◌, ◌≢◌, ℕ, zero, suc, ◌==◌, ◌+◌, ◌<◌, ◌≤◌, false, List, [], ◌∷◌, ◌++◌, length, take, drop, Option, Some, None, IfSome, refl, sym, ap, ◌∙◌, subst, append-nil, arith, length-append, length-take}
 use Rattle.std.proofs.lemmas.Bool.{both_ways, eq-eqb}
-use Rattle.std.proofs.lemmas.List.Elements.{All-append, All-head, All-tail}
-use Rattle.std.specs.Io.KnownBytes.{prepend_known, Consumes, IsAtEnd}
+use Rattle.std.proofs.lemmas.List.{length-take-le}
+use Rattle.std.proofs.lemmas.List.Elements.{All-head, All-tail}
+use Rattle.std.specs.List.{position}
+use Rattle.std.specs.Io.KnownBytes.{prepend_known, Consumes, Keeps, IsAtEnd}
 use Rattle.script_reader.specs.Lines.{is_end, IsUnended}
-use Rattle.pump_audit.specs.Texts.{IsCut, IsNextText, IsTextAtEnd}
+use Rattle.script_reader.proofs.LineEnds.{ended, line_come, piece_come}
+use Rattle.pump_audit.specs.Texts.{IsCut, IsFirstText, IsNextText, IsTextAtEnd}
 use Rattle.pump_audit.specs.declared.texts.Texted.{Texted}
 use Rattle.pump_audit.specs.declared.texts.Texted.TheVariants as texted
 
@@ -73,28 +75,30 @@ pub never_failed : (text : List ℕ) (t : Texted) → IsTextAtEnd text t → t �
 never_failed [] t is e = cc
 never_failed (x ∷ xs) t is e = cc
 
--- behind what was gathered of a line nothing comes
-pub at_end_is : (a b new : Option (List ℕ)) (text after : List ℕ) (t : Texted) → Consumes a b text → IsAtEnd b → IsUnended text → IsTextAtEnd text t → IsNextText a new after t
+-- behind what is held nothing comes
+pub at_end_is : (a b new : Option (List ℕ)) (held after : List ℕ) (t : Texted) → Consumes a b held → IsAtEnd b → IsUnended held → IsTextAtEnd held t → IsNextText a new after t
 at_end_is a b new [] after t came end unended is = subst (λ (u : Texted). IsNextText a new after u) (sym is) (no_line_left a b [] came end refl)
 at_end_is a b new (x ∷ xs) after t came end unended is = subst (λ (u : Texted). IsNextText a new after u) (sym is) (last_line a b (x ∷ xs) came end unended (omega arith))
 
--- ---- bytes that are read ahead ----
+-- ---- the first line of what is held ----
 
--- a piece of what is held is given
-pub takes_piece : (a : Option (List ℕ)) (held piece rest : List ℕ) → held ≡ piece ++ rest → Consumes (prepend_known held a) (prepend_known rest a) piece
-takes_piece None held piece rest e = tt
-takes_piece (Some xs) held piece rest e = ap (λ (l : List ℕ). l ++ xs) e ∙ append_assoc piece rest xs
+pub first_is : (a b : Option (List ℕ)) (held new : List ℕ) (len : ℕ) (text : List ℕ) (t : Texted) → Keeps a (prepend_known held b) → position is_end held ≡ Some len
+    → IsFirstText held new len text t → IsNextText a (prepend_known new b) text t
+first_is a b held new len text texted.Text kept at first =
+    let p = ended held len at in
+    rw (first.0, first.1) (
+      record { unended = p.0; short = omega (arith, first.2, length-take len held) },
+      line_come a b held (take len held) (drop (len + 1) held) kept p.1,
+    )
+first_is a b held new len text texted.Cut kept at first =
+    let p = ended held len at in
+    long_line a (prepend_known (10 ∷ drop (len + 1) held) b) (take len held) (piece_come a b held (take len held) (10 ∷ drop (len + 1) held) kept p.1) p.0
+    (omega (arith, first.0, length-take-le len held (omega (arith, p.2))))
+first_is a b held new len text texted.End kept at first = absurd first
+first_is a b held new len text texted.Failed kept at first = absurd first
 
--- of what is held more bytes have no line end than a line has
-pub line_is_long : (a b : Option (List ℕ)) (held text piece rest : List ℕ) → Consumes a (prepend_known held b) text → IsUnended text
-    → IsUnended piece → held ≡ piece ++ rest → 2400 < length text + length piece → IfSome a IsCut
-line_is_long a b held text piece rest came kept unended e long =
-    long_line a (prepend_known rest b) (text ++ piece)
-    (Consumes-trans a (prepend_known held b) (prepend_known rest b) text piece came (takes_piece b held piece rest e))
-    (All-append (λ b. is_end b ≡ false) text piece kept unended) (omega (arith, long, length-append text piece))
-
-pub none_left : (xs : List ℕ) (n : ℕ) → length xs ≤ n → drop n xs ≡ []
-none_left [] zero le = refl
-none_left [] (suc n) le = refl
-none_left (x ∷ xs) zero le = absurd (omega (arith, le))
-none_left (x ∷ xs) (suc n) le = none_left xs n (omega (arith, le))
+pub first_came : (held new : List ℕ) (len : ℕ) (text : List ℕ) (t : Texted) → IsFirstText held new len text t → t ≡ texted.Failed → ⊥
+first_came held new len text texted.Text first e = cc
+first_came held new len text texted.Cut first e = cc
+first_came held new len text texted.End first e = cc
+first_came held new len text texted.Failed first e = absurd first

@@ -33,8 +33,8 @@ use Rattle.pump_audit.specs.declared.entry.LookLine.{LookLine}
 use Rattle.pump_audit.specs.declared.entry.Note.TheVariants as notes
 use Rattle.pump_audit.specs.declared.entry.Entry.{Entry}
 use Rattle.pump_audit.specs.declared.entry.Entry.TheVariants as entries
-use Rattle.pump_audit.specs.declared.form.Place.{Place}
-use Rattle.pump_audit.specs.declared.form.Place.TheVariants as places
+use Rattle.pump_audit.specs.declared.form.RecordPlace.{RecordPlace}
+use Rattle.pump_audit.specs.declared.form.RecordPlace.TheVariants as places
 use Rattle.pump_audit.specs.Claims.{has_end, AreRight, pair_of}
 use Rattle.pump_audit.specs.Entries.{line_in, IsPlainIn, IsEntry}
 use Rattle.pump_audit.specs.Places.{at_place, takes_looks, takes_times, is_taken, is_opening, ends_at, has_end_at}
@@ -180,7 +180,7 @@ with_taken r count = with_note r (notes.Took count)
 abbrev pub with_end : Record → ℕ → ℕ → Record
 with_end r accepted removed = with_note r (notes.End accepted removed)
 
-placed : (b : Bool) (r : Record) (p : Place) → b ≡ true → is_some (at_place (form_of r) b p) ≡ true
+placed : (b : Bool) (r : Record) (p : RecordPlace) → b ≡ true → is_some (at_place (form_of r) b p) ≡ true
 placed true r p e = refl
 placed false r p e = absurd (cc)
 
@@ -250,14 +250,14 @@ right r (c ∷ claims) rises averages = (
 
 -- ---- a clean record ----
 
-looks_end : (p : Place) → takes_looks p ≡ true → (ends_at p ≡ true) × (has_end_at p ≡ false)
+looks_end : (p : RecordPlace) → takes_looks p ≡ true → (ends_at p ≡ true) × (has_end_at p ≡ false)
 looks_end places.Opening e = (refl, refl)
 looks_end places.Looks e = (refl, refl)
 looks_end places.Times e = absurd (cc)
 looks_end places.Taken e = absurd (cc)
 looks_end places.End e = absurd (cc)
 
-pub looks_times : (p : Place) → takes_looks p ≡ true → takes_times p ≡ true
+pub looks_times : (p : RecordPlace) → takes_looks p ≡ true → takes_times p ≡ true
 looks_times places.Opening e = refl
 looks_times places.Looks e = refl
 looks_times places.Times e = absurd (cc)

@@ -17,8 +17,8 @@ use Rattle.pump_audit.specs.declared.claims.Claims.{Claims}
 use Rattle.pump_audit.specs.declared.entry.LookLine.{LookLine}
 use Rattle.pump_audit.specs.declared.entry.Note.{Note}
 use Rattle.pump_audit.specs.declared.form.Form.{Form}
-use Rattle.pump_audit.specs.declared.form.Place.{Place}
-use Rattle.pump_audit.specs.declared.form.Place.TheVariants as places
+use Rattle.pump_audit.specs.declared.form.RecordPlace.{RecordPlace}
+use Rattle.pump_audit.specs.declared.form.RecordPlace.TheVariants as places
 use Rattle.pump_audit.specs.declared.life.Life.{Life}
 use Rattle.script_reader.specs.Lawful.{IsLawfulFeedback}
 use Rattle.pump_frame.specs.Rows.{IsLawfulRow}
@@ -54,7 +54,7 @@ pub record LivesIn (life : Life) (owed : Option Reply) (row : SessionRow) (o : O
   pub replies : LowReplies row (history_in o looks) (comments ++ owed_in row life.last owed)
 
 -- which of the claims the times have met, by where the record stands
-abbrev pub MeetsAt : Place → SessionRow → List ℕ → List Claim → ℕ → Type 0
+abbrev pub MeetsAt : RecordPlace → SessionRow → List ℕ → List Claim → ℕ → Type 0
 MeetsAt places.Opening row times pairs met = (met ≡ 0) × (times ≡ [])
 MeetsAt places.Looks row times pairs met = (met ≡ 0) × (times ≡ [])
 MeetsAt places.Times row times pairs met = Meets (averaging_of row) times (length times) pairs met
@@ -62,7 +62,7 @@ MeetsAt places.Taken row times pairs met = Meets (averaging_of row) times (lengt
 MeetsAt places.End row times pairs met = Meets (averaging_of row) times (length times + 1) pairs met
 
 -- the claims are kept, and the times
-pub record Held (kept : Claims) (window : Window) (place : Place) (row : SessionRow) (claims : List Claim)
+pub record Held (kept : Claims) (window : Window) (place : RecordPlace) (row : SessionRow) (claims : List Claim)
     (times : List ℕ) : Type 0 where
   pub keeps : Keeps claims kept.pairs.items
   pub fell : Fell claims kept.greatest kept.fall

@@ -18,8 +18,8 @@ use Rattle.pump_audit.specs.declared.entry.LookLine.{LookLine}
 use Rattle.pump_audit.specs.declared.entry.Entry.{Entry}
 use Rattle.pump_audit.specs.declared.entry.Entry.TheVariants as entries
 use Rattle.pump_audit.specs.declared.form.Form.{Form}
-use Rattle.pump_audit.specs.declared.form.Place.{Place}
-use Rattle.pump_audit.specs.declared.form.Place.TheVariants as places
+use Rattle.pump_audit.specs.declared.form.RecordPlace.{RecordPlace}
+use Rattle.pump_audit.specs.declared.form.RecordPlace.TheVariants as places
 use Rattle.pump_audit.specs.Entries.{IsEntry}
 use Rattle.pump_audit.specs.Places.{behind, behind_line, may_end}
 use Rattle.pump_audit.specs.Texts.{IsText, IsCut}
@@ -62,7 +62,7 @@ item_of l = record {
 pub record SideTold : Type 0 where
   pub row : SessionRow
   pub opening : Opening
-  pub place : Place
+  pub place : RecordPlace
   pub lines : ℕ
   pub items : List ItemTold
 
@@ -86,7 +86,7 @@ begun row next is_held = record {
 }
 
 -- the side with one more line, behind which it stands there
-abbrev pub with_entry : SideTold → Entry → Place → SideTold
+abbrev pub with_entry : SideTold → Entry → RecordPlace → SideTold
 with_entry s (entries.Look l) place = record s { place = place; lines = s.lines + 1; items = s.items ++ item_of l ∷ [] }
 with_entry s (entries.Coarse session) place = record s {
   row = record s.row { coarse = true };

@@ -5,33 +5,33 @@ use Rattle.pump_audit.specs.declared.entry.Note.{Note}
 use Rattle.pump_audit.specs.declared.entry.Note.TheVariants as notes
 use Rattle.pump_audit.specs.declared.entry.Entry.{Entry}
 use Rattle.pump_audit.specs.declared.entry.Entry.TheVariants as entries
-use Rattle.pump_audit.specs.declared.form.Place.{Place}
-use Rattle.pump_audit.specs.declared.form.Place.TheVariants as places
+use Rattle.pump_audit.specs.declared.form.RecordPlace.{RecordPlace}
+use Rattle.pump_audit.specs.declared.form.RecordPlace.TheVariants as places
 use Rattle.pump_audit.specs.declared.form.Form.{Form}
 
 -- a look, or the comment of a reply, may stand here
-abbrev pub takes_looks : Place → Bool
+abbrev pub takes_looks : RecordPlace → Bool
 takes_looks places.Opening = true
 takes_looks places.Looks = true
 takes_looks _ = false
 
 -- a time, or how many were taken, may stand here
-abbrev pub takes_times : Place → Bool
+abbrev pub takes_times : RecordPlace → Bool
 takes_times places.Opening = true
 takes_times places.Looks = true
 takes_times places.Times = true
 takes_times _ = false
 
-abbrev pub is_opening : Place → Bool
+abbrev pub is_opening : RecordPlace → Bool
 is_opening places.Opening = true
 is_opening _ = false
 
-abbrev pub is_taken : Place → Bool
+abbrev pub is_taken : RecordPlace → Bool
 is_taken places.Taken = true
 is_taken _ = false
 
 -- the place behind a line that may stand where the test says
-abbrev pub at_place : Form → Bool → Place → Option Form
+abbrev pub at_place : Form → Bool → RecordPlace → Option Form
 at_place f test place = if test then Some (record { session = f.session; place = place }) else None
 
 abbrev pub behind_note : Form → Note → Option Form
@@ -53,7 +53,7 @@ behind None (entries.Opening row next is_held) = Some (record { session = row.id
 behind None _ = None
 behind (Some f) e = behind_line f e
 
-abbrev pub ends_at : Place → Bool
+abbrev pub ends_at : RecordPlace → Bool
 ends_at places.Opening = true
 ends_at places.Looks = true
 ends_at places.Times = false
@@ -66,7 +66,7 @@ may_end None = false
 may_end (Some f) = ends_at f.place
 
 -- it tells how it ended
-abbrev pub has_end_at : Place → Bool
+abbrev pub has_end_at : RecordPlace → Bool
 has_end_at places.End = true
 has_end_at places.Opening = false
 has_end_at places.Looks = false

@@ -24,8 +24,8 @@ use Rattle.pump_audit.specs.declared.entry.Note.TheVariants as notes
 use Rattle.pump_audit.specs.declared.entry.LookLine.{LookLine}
 use Rattle.pump_audit.specs.declared.entry.Entry.{Entry}
 use Rattle.pump_audit.specs.declared.entry.Entry.TheVariants as entries
-use Rattle.pump_audit.specs.declared.form.Place.{Place}
-use Rattle.pump_audit.specs.declared.form.Place.TheVariants as places
+use Rattle.pump_audit.specs.declared.form.RecordPlace.{RecordPlace}
+use Rattle.pump_audit.specs.declared.form.RecordPlace.TheVariants as places
 use Rattle.pump_audit.specs.declared.form.Form.{Form}
 use Rattle.pump_audit.specs.Entries.{arrival_of}
 use Rattle.pump_audit.specs.Places.{behind}
@@ -35,7 +35,7 @@ pub record Record : Type 0 where
   pub row : SessionRow
   pub opening : Opening
   -- where it stands, and how many lines it has
-  pub place : Place
+  pub place : RecordPlace
   pub lines : ℕ
   pub looks : List Look
   -- the replies that its comments tell
@@ -150,7 +150,7 @@ begun row next is_held = record {
 }
 
 -- the record with one more line, behind which it stands there
-abbrev pub with_line : Record → Place → Record
+abbrev pub with_line : Record → RecordPlace → Record
 with_line r place = record r { place = place; lines = r.lines + 1 }
 
 -- the pair that a feedback tells, with the number of its line

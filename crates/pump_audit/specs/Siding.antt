@@ -44,13 +44,13 @@ LooksTell None (Matched m) xs = ⊥
 LooksTell (Some us) (Kept items) xs = ⊥
 LooksTell (Some us) (Matched m) xs = Matches us m xs
 
-pub record Opens (o : Opened) (s : SideTold) : Type 0 where
+pub record SideOpens (o : Opened) (s : SideTold) : Type 0 where
   pub row : o.row ≡ s.row
   pub next : o.next ≡ s.opening.count
   pub is_held : o.is_held ≡ s.opening.is_held
 
 pub record Stands (first : Option (List ItemTold)) (v : Side) (s : SideTold) : Type 0 where
-  pub opens : Opens v.opened s
+  pub opens : SideOpens v.opened s
   pub place : v.place ≡ s.place
   pub looks : LooksTell first v.looks s.items
 

@@ -13,7 +13,7 @@ ghost use Rattle.pump_audit.specs.Records.{Record, begun, made_coarse, with_note
 
 use crate::claims::Claims;
 use crate::entry::{Entry, LookLine, Note};
-use crate::form::{Form, Place};
+use crate::form::{Form, RecordPlace};
 use crate::life::Life;
 use crate::reading::{Room, read_entry};
 use crate::state::Audit;
@@ -43,7 +43,7 @@ impl Audit {
         let window = Window::of_row(alloc, row)?;
         Ok(Audit {
             life: Life::open(row, next, is_held),
-            place: Place::Opening,
+            place: RecordPlace::Opening,
             lines: 1,
             owed: None,
             looks: 0,
@@ -65,7 +65,7 @@ impl Audit {
     {
         self.life.row.coarse = true;
         self.window.make_coarse();
-        self.place = Place::Looks;
+        self.place = RecordPlace::Looks;
         self.lines += 1;
     }
 
@@ -85,7 +85,7 @@ impl Audit {
         if self.owed.is_some() {
             return Ok(Some(3));
         }
-        self.place = Place::Looks;
+        self.place = RecordPlace::Looks;
         self.lines += 1;
         self.claims.hear(&feedback, self.lines)?;
         self.owed = self.life.step(line, &feedback);
@@ -116,7 +116,7 @@ impl Audit {
         if !self.is_owed(session, moment, reply) {
             return Some(3);
         }
-        self.place = Place::Looks;
+        self.place = RecordPlace::Looks;
         self.lines += 1;
         self.owed = None;
         if is_ack(reply) {
@@ -136,7 +136,7 @@ impl Audit {
     {
         self.claims.meet(self.window.count(), self.window.average());
         self.window.push(micros);
-        self.place = Place::Times;
+        self.place = RecordPlace::Times;
         self.lines += 1;
     }
 
@@ -150,7 +150,7 @@ impl Audit {
     {
         self.claims.meet(self.window.count(), self.window.average());
         self.taken = count;
-        self.place = Place::Taken;
+        self.place = RecordPlace::Taken;
         self.lines += 1;
     }
 
@@ -164,7 +164,7 @@ impl Audit {
     {
         self.accepted = accepted;
         self.removed = removed;
-        self.place = Place::End;
+        self.place = RecordPlace::End;
         self.lines += 1;
     }
 

@@ -7,7 +7,7 @@ ghost use Rattle.pump_frame.specs.Spellings.{spelling};
 ghost use Rattle.pump_audit.specs.Comparing.{ItemTold, SideTold, SidesAre, AreAlike, DifferAt, item_of, offered_bytes};
 ghost use Rattle.pump_audit.specs.Comparing.{same_told, unlike};
 ghost use Rattle.pump_audit.specs.Entries.{IsPlain};
-ghost use Rattle.pump_audit.specs.Siding.{tells, LooksTell, Matches, Opens, Stands, has_same_numbers, has_same_row};
+ghost use Rattle.pump_audit.specs.Siding.{tells, LooksTell, Matches, SideOpens, Stands, has_same_numbers, has_same_row};
 ghost use Rattle.pump_audit.specs.Siding.{has_same_opening};
 
 use crate::compared::{Compared, What};
@@ -198,7 +198,7 @@ impl Opened {
 impl Side {
     /// How a first record that was opened so compares with this one, of which no further line comes.
     pub fn compared(&self, first: &Opened) -> Compared
-        ensures { (a b : SideTold) → Opens first.now a → Stands (Some a.items) self.now b → SidesAre a b result }
+        ensures { (a b : SideTold) → SideOpens first.now a → Stands (Some a.items) self.now b → SidesAre a b result }
     {
         if !first.is_same(&self.opened) {
             return Compared::Differ {

@@ -7,7 +7,7 @@ use crate::entry::{Entry, Note};
 
 /// Where a record stands behind its last line.
 #[derive(Clone, Copy)]
-pub(crate) enum Place {
+pub(crate) enum RecordPlace {
     Opening,
     /// Behind a look, its comment, or the line that makes the session coarse.
     Looks,
@@ -17,31 +17,37 @@ pub(crate) enum Place {
     End,
 }
 
-impl Place {
+impl RecordPlace {
     fn takes_looks(&self) -> bool
         ensures { result ≡ takes_looks self.now }
     {
-        matches!(self, Place::Opening | Place::Looks)
+        matches!(self, RecordPlace::Opening | RecordPlace::Looks)
     }
 
     fn takes_times(&self) -> bool
         ensures { result ≡ takes_times self.now }
     {
-        matches!(self, Place::Opening | Place::Looks | Place::Times)
+        matches!(
+            self,
+            RecordPlace::Opening | RecordPlace::Looks | RecordPlace::Times
+        )
     }
 
     /// Whether the record has told how it ended.
     pub fn is_end(&self) -> bool
         ensures { result ≡ has_end_at self.now }
     {
-        matches!(self, Place::End)
+        matches!(self, RecordPlace::End)
     }
 
     /// Whether a record may end here.
     pub fn may_end(&self) -> bool
         ensures { result ≡ ends_at self.now }
     {
-        matches!(self, Place::Opening | Place::Looks | Place::End)
+        matches!(
+            self,
+            RecordPlace::Opening | RecordPlace::Looks | RecordPlace::End
+        )
     }
 }
 
@@ -49,12 +55,12 @@ impl Place {
 #[derive(Clone, Copy)]
 pub(crate) struct Form {
     pub session: u32,
-    pub place: Place,
+    pub place: RecordPlace,
 }
 
 impl Form {
     // The form behind a line that may stand here or not.
-    fn moved(&self, may: bool, place: Place) -> Option<Form>
+    fn moved(&self, may: bool, place: RecordPlace) -> Option<Form>
         ensures { result ≡ at_place self.now may place }
     {
         if !may {
@@ -70,10 +76,13 @@ impl Form {
         ensures { result ≡ behind_note self.now note.now }
     {
         match note {
-            Note::Low { .. } => self.moved(self.place.takes_looks(), Place::Looks),
-            Note::Time { .. } => self.moved(self.place.takes_times(), Place::Times),
-            Note::Took { .. } => self.moved(self.place.takes_times(), Place::Taken),
-            Note::End { .. } => self.moved(matches!(self.place, Place::Taken), Place::End),
+            Note::Low { .. } => self.moved(self.place.takes_looks(), RecordPlace::Looks),
+            Note::Time { .. } => self.moved(self.place.takes_times(), RecordPlace::Times),
+            Note::Took { .. } => self.moved(self.place.takes_times(), RecordPlace::Taken),
+            Note::End { .. } => self.moved(
+                matches!(self.place, RecordPlace::Taken),
+                RecordPlace::End,
+            ),
         }
     }
 
@@ -85,12 +94,12 @@ impl Form {
         match entry {
             Entry::Opening { .. } => None,
             Entry::Coarse { session } => {
-                let may = *session == self.session && matches!(self.place, Place::Opening);
-                self.moved(may, Place::Looks)
+                let may = *session == self.session && matches!(self.place, RecordPlace::Opening);
+                self.moved(may, RecordPlace::Looks)
             }
             Entry::Look(line) => {
                 let may = line.session == self.session && self.place.takes_looks();
-                self.moved(may, Place::Looks)
+                self.moved(may, RecordPlace::Looks)
             }
             Entry::Comment(note) => self.behind_note(note),
         }

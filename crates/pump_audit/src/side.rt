@@ -2,7 +2,7 @@
 ghost use Rattle.std.specs.Prelude.{◌≤◌, length};
 
 use crate::compared::What;
-use crate::form::Place;
+use crate::form::RecordPlace;
 use pump_frame::SessionRow;
 use script_reader::ToldFeedback;
 
@@ -50,6 +50,6 @@ pub(crate) enum Looks {
 #[derive(Drop)]
 pub(crate) struct Side {
     pub opened: Opened,
-    pub place: Place,
+    pub place: RecordPlace,
     pub looks: Looks,
 }

@@ -5,7 +5,7 @@ ghost use Rattle.pump_audit.specs.Comparing.{separator, ItemTold, SideTold, with
 ghost use Rattle.pump_audit.specs.Siding.{LooksTell, Stands, form_of_side, BeginsAs, GoesOnBy, IsSound};
 
 use crate::entry::Entry;
-use crate::form::{Form, Place};
+use crate::form::{Form, RecordPlace};
 use crate::reading::{Room, read_entry};
 use crate::side::{Looks, Opened, Side};
 use pump_frame::OutOfMemory;
@@ -19,7 +19,7 @@ impl Side {
         match read_entry(text, room) {
             Some(Entry::Opening { row, next, is_held }) => Some(Side {
                 opened: Opened { row, next, is_held },
-                place: Place::Opening,
+                place: RecordPlace::Opening,
                 looks,
             }),
             _ => None,
@@ -36,7 +36,12 @@ impl Side {
     }
 
     // A line behind which the record stands there.
-    fn add_entry(&mut self, alloc: Global, entry: &Entry, place: Place) -> Result<(), OutOfMemory>
+    fn add_entry(
+        &mut self,
+        alloc: Global,
+        entry: &Entry,
+        place: RecordPlace,
+    ) -> Result<(), OutOfMemory>
         requires { IsSound entry.now }
         ensures { OnOk result ((first : Option (List ItemTold)) (s : SideTold) → Stands first self.old s
             → Stands first self.new (with_entry s entry.now place)) }

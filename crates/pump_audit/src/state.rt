@@ -4,7 +4,7 @@ ghost use Rattle.pump_frame.specs.Rows.{IsLawfulRow};
 ghost use Rattle.moving_avg.specs.Windows.{count_of};
 
 use crate::claims::Claims;
-use crate::form::Place;
+use crate::form::RecordPlace;
 use crate::life::Life;
 use moving_avg::Window;
 use pump_core::Reply;
@@ -14,7 +14,7 @@ use pump_core::Reply;
 #[derive(Drop)]
 pub(crate) struct Audit {
     pub life: Life,
-    pub place: Place,
+    pub place: RecordPlace,
     /// How many lines came.
     pub lines: u32,
     /// The reply of the last look, as long as it has no comment.

@@ -206,3 +206,22 @@ some_come (Some xs) (Some ys) held k h = rw (← k) (h ys)
 -- a line end stands in it
 pub ended_some : (held : List ℕ) (len : ℕ) → position is_end held ≡ Some len → (more : List ℕ) → IsSome (held ++ more)
 ended_some held len at more = rw ((ended held len at).1) (nonempty (take len held) (drop (len + 1) held) 10 more)
+
+-- what is held may be given on, as a whole
+pub held_come : (old a : Option (List ℕ)) (held : List ℕ) → Keeps old (prepend_known held a) → Consumes old a held
+held_come None a held k = tt
+held_come (Some xs) None held k = absurd k
+held_come (Some xs) (Some ys) held k = sym k
+
+-- .. or in part
+pub piece_come : (old a : Option (List ℕ)) (held piece rest : List ℕ) → Keeps old (prepend_known held a) → held ≡ piece ++ rest → Consumes old (prepend_known rest a) piece
+piece_come None a held piece rest k e = tt
+piece_come (Some xs) None held piece rest k e = absurd k
+piece_come (Some xs) (Some ys) held piece rest k e = sym k ∙ ap (λ z. z ++ ys) e ∙ append_assoc piece rest ys
+
+ended_or : (held : List ℕ) (o : Option ℕ) → o ≡ position is_end held → (LineIsReady held → ⊥) → IsUnended held
+ended_or held None e not_ready = not_ended held (sym e)
+ended_or held (Some i) e not_ready = absurd (not_ready (ready_here held (Some i) e refl))
+
+pub not_ready : (held : List ℕ) → (LineIsReady held → ⊥) → IsUnended held
+not_ready held h = ended_or held (position is_end held) refl h

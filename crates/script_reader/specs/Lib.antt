@@ -5,6 +5,7 @@ pub mod DigitValues
 pub mod EventHeads
 pub mod Faults
 pub mod Fields
+pub mod FirstLines
 pub mod Prefixes
 pub mod Generated
 pub mod Generating

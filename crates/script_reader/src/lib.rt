@@ -13,6 +13,7 @@ mod fault;
 mod fields;
 mod generator;
 mod head;
+mod held_lines;
 pub mod laws;
 mod line;
 mod line_printing;
@@ -27,6 +28,7 @@ pub use fault::Fault;
 pub use fields::Fields;
 pub use generator::{Generator, generated_lines_apply, generated_row};
 pub use head::{Act, ArrivingHead, LineHead, LinedHead};
+pub use held_lines::{FirstLine, HeldLines};
 pub use laws::{
     faulty_scripts_have_no_transcript, full_moments_and_averages_decide, low_lines_are_a_function,
     low_lines_are_replies, low_sides_have_one_transcript, one_reading, stopping_lines_are_one,

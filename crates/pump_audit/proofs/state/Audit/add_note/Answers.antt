@@ -1,6 +1,6 @@
 use Rattle.std.proofs.Common.{refl, sym, subst, ◌∙◌, List}
 use Rattle.pump_core.specs.Replies.{Sent}
-use Rattle.pump_audit.specs.declared.form.Place.TheVariants as places
+use Rattle.pump_audit.specs.declared.form.RecordPlace.TheVariants as places
 use Rattle.pump_audit.specs.Auditing.{form_of_audit}
 use Rattle.pump_audit.specs.Places.{is_taken, takes_looks, takes_times}
 use Rattle.pump_audit.specs.Records.{AreTold}

@@ -1,6 +1,6 @@
 use Rattle.std.proofs.Common.{◌+◌, ◌-◌, ◌≤◌, ℕ, List, length, drop, ap, arith, length-take}
 use Rattle.script_reader.proofs.LineEnds.{advanced}
-use Rattle.pump_audit.proofs.texts.Texts.advance.Goals as goal
+use Rattle.script_reader.proofs.held_lines.HeldLines.advance.Goals as goal
 
 pub returns : goal.returns
 returns c =

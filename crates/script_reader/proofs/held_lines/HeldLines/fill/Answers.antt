@@ -3,7 +3,7 @@ use Rattle.std.proofs.lemmas.List.{length-take-le}
 use borrow.Rule.Slice.PartMut.{put_mid}
 use lib.Seq.{paste}
 use Rattle.script_reader.proofs.LineEnds.{held_more, Keeps-moved, Keeps-held}
-use Rattle.script_reader.proofs.lines.Lines.fill.Goals as goal
+use Rattle.script_reader.proofs.held_lines.HeldLines.fill.Goals as goal
 
 grown_to : (cells moved into : List ℕ) (start end count : ℕ) → moved ≡ paste cells 0 (drop start cells) (end - start) → start ≤ end → end ≤ length cells → count ≤ length into
     → take (end - start + count - 0) (put_mid (end - start) (4096 - (end - start)) moved into) ≡ take (end - start) (drop start cells) ++ take count into

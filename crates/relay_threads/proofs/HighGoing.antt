@@ -1,5 +1,5 @@
 -- A high worker that goes on, step by step.
-use Rattle.std.proofs.Common.{◌≡◌, ℕ, ◌≤◌, false, refl, ◌∙◌, le_refl, le_trans}
+use Rattle.std.proofs.Common.{◌≡◌, ℕ, false, refl, ◌∙◌, subst, le_refl, le_trans}
 use Rattle.disk_model.specs.Disk.{Meaning}
 use Rattle.pump_core.specs.Passage.{Low, High, Shape}
 use Rattle.high_process.specs.States.{is_down}
@@ -35,3 +35,7 @@ module _ {K D H Place : Type 0} (floor : K → ℕ) (m : Meaning D) (stands : H 
 
   pub can_again : (v w : HighWorker K D H) → GoesOn floor m stands shape place v w → is_down w.process.now ≡ false → CanGoOn floor m stands w
   can_again v w goes up = record { ready = goes.ready up; order = goes.order }
+
+-- what holds of the values of three loans holds of equal ones
+pub moved : {A B C : Type 0} (P : A → B → C → Type 0) {a a' : A} {b b' : B} {c c' : C} → a ≡ a' → b ≡ b' → c ≡ c' → P a b c → P a' b' c'
+moved {A} {B} {C} P ea eb ec p = subst (λ (t : A × B × C). P t.0 t.1 t.2) (λ i. (ea i, eb i, ec i)) p

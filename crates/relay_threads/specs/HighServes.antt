@@ -8,7 +8,7 @@ use Rattle.high_process.specs.States.{row_of, is_down}
 use Rattle.high_process.specs.Past.{ProcessPast}
 use Rattle.high_process.specs.Looks.{StandsFor}
 use Rattle.relay_threads.specs.declared.high_served.HighWhy.{HighWhy}
-use Rattle.relay_threads.specs.declared.high_served.HighWhy.TheVariants.{Device, Looks, Stopped}
+use Rattle.relay_threads.specs.declared.high_served.HighWhy.TheVariants.{Device, LinkFailed, Looks, Stopped}
 use Rattle.relay_threads.specs.declared.high_served.HighServed.{HighServed}
 use Rattle.relay_threads.specs.declared.high_round.HighConnection.{HighConnection}
 use Rattle.relay_threads.specs.Hearings.{IsHearing, Leaves, heard_as, held_in}
@@ -77,3 +77,12 @@ CountsFault _ before now = Unit {0}
 abbrev pub CountsFaultIn : Option HighWhy → ℕ → ℕ → Type 0
 CountsFaultIn None before now = Unit {0}
 CountsFaultIn (Some why) before now = CountsFault why before now
+
+-- What failed or stopped the worker, as its answer says: a count rose for it. So with the faults of the link and of
+-- the disk, and with the stops of the gate, each before the call and after it.
+pub record IsCaused (why : HighWhy) (link_was link_now disk_was disk_now stops_was stops_now : ℕ) : Type 0 where
+  pub link : why ≡ LinkFailed → Rose link_was link_now
+  pub device : CountsFault why disk_was disk_now
+  pub stopped : why ≡ Stopped → Rose stops_was stops_now
+  -- with any other answer the gate stopped nobody
+  pub went : (why ≡ Stopped → ⊥) → stops_now ≡ stops_was

@@ -90,6 +90,19 @@ abbrev pub CountsFaultIn : Option LowWhy → ℕ → ℕ → Type 0
 CountsFaultIn None before now = Unit {0}
 CountsFaultIn (Some why) before now = CountsFault why before now
 
+-- ---- the cause of an answer ----
+
+-- What failed or stopped the worker, as its answer says: a count rose for it. So with the faults of the link, of the
+-- tape and of the disk, and with the stops of the gate, each before the call and after it.
+pub record IsCaused (why : LowWhy) (link_was link_now tape_was tape_now disk_was disk_now stops_was stops_now : ℕ)
+    : Type 0 where
+  pub link : why ≡ whys.LinkFailed → Rose link_was link_now
+  pub tape : why ≡ whys.RecordFailed → Rose tape_was tape_now
+  pub device : CountsFault why disk_was disk_now
+  pub stopped : why ≡ whys.Stopped → Rose stops_was stops_now
+  -- with any other answer the gate stopped nobody
+  pub went : (why ≡ whys.Stopped → ⊥) → stops_now ≡ stops_was
+
 -- ---- the functions of one round ----
 
 abbrev pub heard_option : Option Hearing → Heard

@@ -1,16 +1,14 @@
 // The high worker on one connection.
 ghost use Rattle.std.specs.Prelude.{◌≡◌, ◌+◌, ◌-◌, ◌^◌, ◌<◌, ◌≤◌, false, List, if◌then◌else◌};
-ghost use Rattle.pump_frame.specs.Counts.{Rose};
 ghost use Rattle.pump_frame.specs.Streams.{spellings};
 ghost use Rattle.pump_link.specs.Tells.{Draws, Grows};
 ghost use Rattle.stable_buffer.specs.High.{high_disk};
 ghost use Rattle.high_process.specs.Ready.{Ready};
 ghost use Rattle.high_process.specs.States.{row_of, last_of, is_down};
-ghost use Rattle.relay_threads.specs.declared.high_served.HighWhy.TheVariants.{LinkFailed, Stopped};
 ghost use Rattle.relay_threads.specs.Workers.{SendsPrefix};
 ghost use Rattle.relay_threads.specs.HighRounds.{Round, looks_of_rounds, moments, data_sent, asks_of};
 ghost use Rattle.relay_threads.specs.HighEnds.{TakesSo};
-ghost use Rattle.relay_threads.specs.HighServes.{Serves, IsServed, all_sent, is_device, CountsFault};
+ghost use Rattle.relay_threads.specs.HighServes.{Serves, IsServed, all_sent, is_device, IsCaused};
 ghost use Rattle.relay_threads.specs.HighWorkers.{CanGoOn, GoesOn};
 
 use crate::gate::Gate;
@@ -52,11 +50,9 @@ impl<K: Clock, D: Disk, H: WaitHighEnd> HighWorker<'_, '_, '_, '_, K, D, H> {
             × TakesSo H.stands self.old.ends.now self.new.ends.now self.old.process.now self.new.process.now rounds }
         ensures goes_on { GoesOn K.floor D.told H.stands H.shape H.place self.old self.new }
         ensures up { is_device result.why ≡ false → is_down self.new.process.now ≡ false }
-        ensures link { result.why ≡ LinkFailed → Rose (C.faults link.old) (C.faults link.new) }
-        ensures device { CountsFault result.why (D.told.count (high_disk self.old.store.now))
-            (D.told.count (high_disk self.new.store.now)) }
-        ensures stopped { result.why ≡ Stopped → Rose (G.stops gate.old) (G.stops gate.new) }
-        ensures went { (result.why ≡ Stopped → ⊥) → G.stops gate.new ≡ G.stops gate.old }
+        ensures caused { IsCaused result.why (C.faults link.old) (C.faults link.new)
+            (D.told.count (high_disk self.old.store.now)) (D.told.count (high_disk self.new.store.now))
+            (G.stops gate.old) (G.stops gate.new) }
     {
         let mut connection = HighConnection::new();
         let mut rounds = 0;
@@ -120,11 +116,9 @@ pub fn serve_high<R: Wait, C: Link, K: Clock, D: Disk, H: WaitHighEnd, G: Gate>(
     ensures order { last_of process.new ≤ K.floor clock.new }
     ensures shape { H.shape ends.new ≡ H.shape ends.old }
     ensures place { H.place ends.new ≡ H.place ends.old }
-    ensures link { result.why ≡ LinkFailed → Rose (C.faults link.old) (C.faults link.new) }
     ensures counts { D.told.count (high_disk store.old) ≤ D.told.count (high_disk store.new) }
-    ensures device { CountsFault result.why (D.told.count (high_disk store.old)) (D.told.count (high_disk store.new)) }
-    ensures stopped { result.why ≡ Stopped → Rose (G.stops gate.old) (G.stops gate.new) }
-    ensures went { (result.why ≡ Stopped → ⊥) → G.stops gate.new ≡ G.stops gate.old }
+    ensures caused { IsCaused result.why (C.faults link.old) (C.faults link.new) (D.told.count (high_disk store.old))
+        (D.told.count (high_disk store.new)) (G.stops gate.old) (G.stops gate.new) }
 {
     let mut worker = HighWorker {
         clock,

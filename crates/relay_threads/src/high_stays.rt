@@ -77,40 +77,6 @@ impl<K: Clock, D: Disk, H: WaitHighEnd> HighWorker<'_, '_, '_, '_, K, D, H> {
             },
         }
     }
-
-    /// Makes this many rounds at the door, as `high_rounds` does.
-    pub fn rounds<R: Wait, P: Door, V: Watch>(
-        &mut self,
-        rt: &R,
-        door: &mut P,
-        watch: &V,
-        rounds: u32,
-    ) -> RoundsEnd
-        requires can { CanGoOn K.floor D.told H.stands self.old }
-        ensures rounds { (stays : List (Stay P.Link)) × StaysSo self.old.process.now self.new.process.now stays
-            × EndsStays stays rounds result
-            × Grows (P.did door.old) (P.did door.new) (steps stays)
-            × Draws (P.gives door.old) (P.gives door.new) (answers stays)
-            × AllByRecursion (TellsVisit P.Link.gives P.Link.sent P.Link.faults (row_of self.old.process.now).id) stays
-            × Draws (K.reads self.old.clock.now) (K.reads self.new.clock.now) (moments_in stays)
-            × StaysTake H.stands self.old.ends.now self.new.ends.now self.old.process.now self.new.process.now stays }
-        ensures port { (n : ℕ) → P.port door.old n → P.port door.new n }
-        ensures goes_on { GoesOn K.floor D.told H.stands H.shape H.place self.old self.new }
-        ensures up { is_broken (Some result) ≡ false → is_down self.new.process.now ≡ false }
-        ensures device { CountsEnd (Some result) (D.told.count (high_disk self.old.store.now))
-            (D.told.count (high_disk self.new.store.now)) }
-    {
-        let most = u64::from(rounds);
-        let mut made = 0;
-        while made < most {
-            let turn = self.stay(rt, door, watch, most - made);
-            made += turn.looks;
-            if let Some(end) = turn.end {
-                return end;
-            }
-        }
-        RoundsEnd::Rounds
-    }
 }
 
 /// The high worker of a session over its door, with this many rounds (`docs/design.md`,
@@ -156,5 +122,14 @@ pub fn high_rounds<R: Wait, P: Door, K: Clock, D: Disk, H: WaitHighEnd, V: Watch
         store,
         ends,
     };
-    worker.rounds(rt, door, watch, rounds)
+    let most = u64::from(rounds);
+    let mut made = 0;
+    while made < most {
+        let turn = worker.stay(rt, door, watch, most - made);
+        made += turn.looks;
+        if let Some(end) = turn.end {
+            return end;
+        }
+    }
+    RoundsEnd::Rounds
 }

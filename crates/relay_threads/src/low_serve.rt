@@ -1,17 +1,16 @@
 // The low worker on one connection.
 ghost use Rattle.std.specs.Prelude.{◌≡◌, ◌+◌, ◌^◌, ◌<◌, ◌≤◌, false, if◌then◌else◌};
 ghost use Rattle.std.specs.Io.KnownBytes.{Appends};
-ghost use Rattle.pump_frame.specs.Counts.{Rose};
 ghost use Rattle.pump_link.specs.Tells.{Draws, Grows};
 ghost use Rattle.stable_buffer.specs.Low.{low_disk};
 ghost use Rattle.low_process.specs.Ready.{Ready};
 ghost use Rattle.low_process.specs.Looks.{row_of, last_of, is_down};
-ghost use Rattle.relay_threads.specs.declared.low_served.LowWhy.TheVariants.{LinkFailed, RecordFailed, Stopped};
+ghost use Rattle.relay_threads.specs.declared.low_served.LowWhy.TheVariants.{RecordFailed};
 ghost use Rattle.relay_threads.specs.Levels.{IsEndOf};
 ghost use Rattle.relay_threads.specs.LowEnds.{DoesSo, StoresSo};
 ghost use Rattle.relay_threads.specs.Reaching.{Reaches};
 ghost use Rattle.relay_threads.specs.LowWorkers.{CanGoOn, KeepsWorker};
-ghost use Rattle.relay_threads.specs.LowServes.{Serves, is_device, CountsFault};
+ghost use Rattle.relay_threads.specs.LowServes.{is_device, IsCaused};
 ghost use Rattle.relay_threads.specs.LowWorks.{ServesLink};
 
 use crate::gate::Gate;
@@ -68,12 +67,9 @@ impl<K: Clock, W: Words, D: Disk, L: WaitLowEnd, O: Sink> LowWorker<
         ensures keeps { KeepsWorker K.floor D.told L.stands L.shape L.place self.old self.new }
         ensures up { is_device result.why ≡ false → (result.why ≡ RecordFailed → ⊥)
             → is_down self.new.process.now ≡ false }
-        ensures link { result.why ≡ LinkFailed → Rose (C.faults link.old) (C.faults link.new) }
-        ensures tape { result.why ≡ RecordFailed → Rose (O.faults self.old.tape.now) (O.faults self.new.tape.now) }
-        ensures device { CountsFault result.why (D.told.count (low_disk self.old.store.now))
-            (D.told.count (low_disk self.new.store.now)) }
-        ensures stopped { result.why ≡ Stopped → Rose (G.stops gate.old) (G.stops gate.new) }
-        ensures went { (result.why ≡ Stopped → ⊥) → G.stops gate.new ≡ G.stops gate.old }
+        ensures caused { IsCaused result.why (C.faults link.old) (C.faults link.new) (O.faults self.old.tape.now)
+            (O.faults self.new.tape.now) (D.told.count (low_disk self.old.store.now))
+            (D.told.count (low_disk self.new.store.now)) (G.stops gate.old) (G.stops gate.new) }
     {
         let mut connection = LowConnection::new();
         let mut was_full = false;
@@ -134,12 +130,10 @@ pub fn serve_low<R: Wait, C: Link, K: Clock, W: Words, D: Disk, L: WaitLowEnd, O
     ensures order { last_of process.new ≤ K.floor clock.new }
     ensures shape { L.shape ends.new ≡ L.shape ends.old }
     ensures place { L.place ends.new ≡ L.place ends.old }
-    ensures link { result.why ≡ LinkFailed → Rose (C.faults link.old) (C.faults link.new) }
-    ensures tape { result.why ≡ RecordFailed → Rose (O.faults tape.old) (O.faults tape.new) }
     ensures counts { D.told.count (low_disk store.old) ≤ D.told.count (low_disk store.new) }
-    ensures device { CountsFault result.why (D.told.count (low_disk store.old)) (D.told.count (low_disk store.new)) }
-    ensures stopped { result.why ≡ Stopped → Rose (G.stops gate.old) (G.stops gate.new) }
-    ensures went { (result.why ≡ Stopped → ⊥) → G.stops gate.new ≡ G.stops gate.old }
+    ensures caused { IsCaused result.why (C.faults link.old) (C.faults link.new) (O.faults tape.old)
+        (O.faults tape.new) (D.told.count (low_disk store.old)) (D.told.count (low_disk store.new)) (G.stops gate.old)
+        (G.stops gate.new) }
 {
     let mut worker = LowWorker {
         clock,

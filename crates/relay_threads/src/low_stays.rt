@@ -182,45 +182,6 @@ impl<K: Clock, W: Words, D: Disk, L: WaitLowEnd, O: Sink> LowWorker<
             },
         }
     }
-
-    // As `low_rounds`, which makes the worker.
-    fn rounds<R: Wait, P: Door, V: Watch>(
-        &mut self,
-        rt: &R,
-        door: &mut P,
-        watch: &V,
-        rounds: u32,
-    ) -> RoundsEnd
-        requires { CanGoOn K.floor D.told L.stands self.old }
-        ensures rounds { ServesDoor self.old.process.now self.new.process.now rounds result
-            (Grows (P.did door.old) (P.did door.new)) (Draws (P.gives door.old) (P.gives door.new))
-            (TellsVisit P.Link.gives P.Link.sent P.Link.faults)
-            (Draws (K.reads self.old.clock.now) (K.reads self.new.clock.now))
-            (Draws (W.gives self.old.words.now) (W.gives self.new.words.now))
-            (Reaches (Appends (O.written self.old.tape.now) (O.written self.new.tape.now))
-            (O.faults self.old.tape.now) (O.faults self.new.tape.now))
-            (IsEndOf L.stands L.shape self.old.ends.now (row_of self.old.process.now))
-            (DoesSo L.stands L.shape self.old.ends.now self.new.ends.now self.old.process.now self.new.process.now)
-            (StoresSo D.told self.old.store.now self.new.store.now self.old.process.now self.new.process.now)
-            (Ready D.told self.new.process.now self.new.store.now (L.stands self.new.ends.now)) }
-        ensures port { (n : ℕ) → P.port door.old n → P.port door.new n }
-        ensures keeps { KeepsWorker K.floor D.told L.stands L.shape L.place self.old self.new }
-        ensures up { result ≡ RoundsMade → is_down self.new.process.now ≡ false }
-        ensures tape { result ≡ RecordBroke → Rose (O.faults self.old.tape.now) (O.faults self.new.tape.now) }
-        ensures device { CountsEnd (Some result) (D.told.count (low_disk self.old.store.now))
-            (D.told.count (low_disk self.new.store.now)) }
-    {
-        let most = u64::from(rounds);
-        let mut made = 0;
-        while made < most {
-            let turn = self.stay(rt, door, watch, most - made);
-            made += turn.looks;
-            if let Some(end) = turn.end {
-                return end;
-            }
-        }
-        RoundsEnd::Rounds
-    }
 }
 
 /// The low worker of a session over its door, with this many rounds (`docs/design.md`, "Serving").
@@ -274,5 +235,14 @@ pub fn low_rounds<R: Wait, P: Door, K: Clock, W: Words, D: Disk, L: WaitLowEnd, 
         ends,
         tape,
     };
-    worker.rounds(rt, door, watch, rounds)
+    let most = u64::from(rounds);
+    let mut made = 0;
+    while made < most {
+        let turn = worker.stay(rt, door, watch, most - made);
+        made += turn.looks;
+        if let Some(end) = turn.end {
+            return end;
+        }
+    }
+    RoundsEnd::Rounds
 }

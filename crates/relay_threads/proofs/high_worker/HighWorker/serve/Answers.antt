@@ -54,10 +54,12 @@ returns-then-not-pass g c =
       );
       goes_on = was.goes_on;
       up = λ calm. was.can.ready.up;
-      link = λ failed. absurd (stopped_no_link failed);
-      device = tt;
-      stopped = λ stopped. subst (λ n. Rose n (g.G.Gate.stops c.pass.new.self)) was.gate (e.stopped c.if-not-pass.true);
-      went = λ went. absurd (went refl);
+      caused = record {
+        link = λ failed. absurd (stopped_no_link failed);
+        device = tt;
+        stopped = λ stopped. subst (λ n. Rose n (g.G.Gate.stops c.pass.new.self)) was.gate (e.stopped c.if-not-pass.true);
+        went = λ went. absurd (went refl);
+      };
     }
 
 pub returns-in-Some : goal.returns-in-Some
@@ -90,10 +92,12 @@ returns-in-Some g c =
       );
       goes_on = goes_then g.K.Clock.floor g.D.Disk.told g.H.HighSide.stands g.H.HighSide.shape g.H.HighSide.place c.args.self.now c.loop-rounds.self c.round-turn.new.worker was.goes_on c.round-turn.ensures.goes_on;
       up = λ calm. e.up (ap device_in c.in-Some.is ∙ calm);
-      link = λ failed. rose_later _ _ _ was.link (e.failed (c.in-Some.is ∙ ap Some failed));
-      device = fault_since c.round-turn.result.why c.in-Some.why _ _ _ c.in-Some.is was.goes_on.counts e.device;
-      stopped = λ stopped. absurd (no_stop c.loop-rounds.connection.is_attached r c.in-Some.why is stopped);
-      went = λ _. c.pass.ensures.passed c.if-not-pass.false ∙ was.gate;
+      caused = record {
+        link = λ failed. rose_later _ _ _ was.link (e.failed (c.in-Some.is ∙ ap Some failed));
+        device = fault_since c.round-turn.result.why c.in-Some.why _ _ _ c.in-Some.is was.goes_on.counts e.device;
+        stopped = λ stopped. absurd (no_stop c.loop-rounds.connection.is_attached r c.in-Some.why is stopped);
+        went = λ _. c.pass.ensures.passed c.if-not-pass.false ∙ was.gate;
+      };
     }
 
 pub returns : goal.returns
@@ -114,10 +118,12 @@ returns g c =
       );
       goes_on = was.goes_on;
       up = λ calm. was.can.ready.up;
-      link = λ failed. absurd (looks_no_link failed);
-      device = tt;
-      stopped = λ stopped. absurd (looks_no_stop stopped);
-      went = λ _. was.gate;
+      caused = record {
+        link = λ failed. absurd (looks_no_link failed);
+        device = tt;
+        stopped = λ stopped. absurd (looks_no_stop stopped);
+        went = λ _. was.gate;
+      };
     }
 
 pub loop-rounds-preserved : goal.loop-rounds-preserved

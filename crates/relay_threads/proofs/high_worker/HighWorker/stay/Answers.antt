@@ -16,14 +16,14 @@ returns-in-Came-clause-stay g c =
     let v : Visit g.row.P-Link.Denot = record { came = c.in-Came.link; back = c.serve-served.new.link; rounds = s.0 } in
     let left = c.args.most - 1 in
     let rest : c.args.most ≡ 1 + left = omega (arith, c.requires.some) in
-    let open_gate : w ≡ Stopped → ⊥ = λ e. omega (arith, c.serve-served.ensures.stopped e) in (
+    let open_gate : w ≡ Stopped → ⊥ = λ e. omega (arith, c.serve-served.ensures.caused.stopped e) in (
       With m v,
       with_so c.args.self.now.process.now c.serve-served.new.self.process.now m v s.1,
       subst (λ e. EndsStay (With m v) c.args.most (record { end = e; looks = 1 + looks })) (sym c.end_by.ensures)
           (with_ends m v c.args.most left looks s.2.0 rest w open_gate s.2.1),
       Grows-then _ _ _ _ _ c.in-Came.ensures.did c.back.ensures.did,
       Draws-kept _ _ _ _ c.in-Came.ensures.gives c.back.ensures.gives,
-      (s.3, s.4, failed_link m v c.args.most left looks s.2.0 rest w _ _ open_gate s.2.1 c.serve-served.ensures.link),
+      (s.3, s.4, failed_link m v c.args.most left looks s.2.0 rest w _ _ open_gate s.2.1 c.serve-served.ensures.caused.link),
       Draws-then _ _ _ _ _ c.moment.ensures.reads s.5,
       s.7,
     )

@@ -107,11 +107,13 @@ returns-then-not-pass g c =
       };
       keeps = was.keeps;
       up = λ _ _. was.up;
-      link = λ e. absurd (stopped_no_link e);
-      tape = λ e. absurd (stopped_no_record e);
-      device = tt;
-      stopped = λ _. subst (λ n. Rose n (G.stops c.pass.new.self)) was.gate (c.pass.ensures.stopped c.if-not-pass.true);
-      went = λ goes_on. absurd (goes_on refl);
+      caused = record {
+        link = λ e. absurd (stopped_no_link e);
+        tape = λ e. absurd (stopped_no_record e);
+        device = tt;
+        stopped = λ _. subst (λ n. Rose n (G.stops c.pass.new.self)) was.gate (c.pass.ensures.stopped c.if-not-pass.true);
+        went = λ goes_on. absurd (goes_on refl);
+      };
     }
 
 pub returns-in-Some : goal.returns-in-Some
@@ -149,11 +151,13 @@ returns-in-Some g c =
       };
       keeps = keeps_then K.floor g.D.Disk.told g.L.LowSide.stands g.L.LowSide.shape g.L.LowSide.place c.args.self.now c.loop-rounds.self c.round-turn.new.self was.keeps e.keeps;
       up = up_after c.round-turn.result.why c.in-Some.why c.in-Some.is e.up;
-      link = λ is. rose_later _ _ _ was.link (e.link (c.in-Some.is ∙ ap (λ w. Some w) is));
-      tape = λ is. keeps.cause (broken_round r (sym t.8 ∙ c.in-Some.is ∙ ap (λ w. Some w) is));
-      device = fault_since c.round-turn.result.why c.in-Some.why _ _ _ c.in-Some.is was.keeps.counts e.device;
-      stopped = λ is. absurd (no_stop r c.in-Some.why why is);
-      went = λ _. c.pass.ensures.passed (c.if-not-pass.false) ∙ was.gate;
+      caused = record {
+        link = λ is. rose_later _ _ _ was.link (e.link (c.in-Some.is ∙ ap (λ w. Some w) is));
+        tape = λ is. keeps.cause (broken_round r (sym t.8 ∙ c.in-Some.is ∙ ap (λ w. Some w) is));
+        device = fault_since c.round-turn.result.why c.in-Some.why _ _ _ c.in-Some.is was.keeps.counts e.device;
+        stopped = λ is. absurd (no_stop r c.in-Some.why why is);
+        went = λ _. c.pass.ensures.passed (c.if-not-pass.false) ∙ was.gate;
+      };
     }
 
 pub returns : goal.returns
@@ -180,9 +184,11 @@ returns g c =
       };
       keeps = was.keeps;
       up = λ _ _. was.up;
-      link = λ e. absurd (looks_no_link e);
-      tape = λ e. absurd (looks_no_record e);
-      device = tt;
-      stopped = λ e. absurd (looks_no_stop e);
-      went = λ _. was.gate;
+      caused = record {
+        link = λ e. absurd (looks_no_link e);
+        tape = λ e. absurd (looks_no_record e);
+        device = tt;
+        stopped = λ e. absurd (looks_no_stop e);
+        went = λ _. was.gate;
+      };
     }

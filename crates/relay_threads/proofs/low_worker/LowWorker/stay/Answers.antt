@@ -42,10 +42,10 @@ returns-in-Came g c =
         With m x,
         with_so v.process.now z.process.now m x (goes v.process.now w.process.now z.process.now rounds most why gone e l.2 s.serves l.5),
         ends_stay m x c.args.most most (record { end = c.leave-end.result; looks = 1 + c.serve-served.result.looks }) is_end (ap (λ n. 1 + n) s.is.0) (omega (arith, c.requires.some))
-            (bound_of rounds most why e) (left_of rounds most why (λ is. absurd (omega (arith, c.serve-served.ensures.stopped is))) e),
+            (bound_of rounds most why e) (left_of rounds most why (λ is. absurd (omega (arith, c.serve-served.ensures.caused.stopped is))) e),
         Grows-then _ _ _ _ _ c.in-Came.ensures.did c.back.ensures.did,
         Draws-kept _ _ _ _ c.in-Came.ensures.gives c.back.ensures.gives,
-        (s.gave, s.replies, λ is. c.serve-served.ensures.link (caused_by rounds most why _ e is)),
+        (s.gave, s.replies, λ is. c.serve-served.ensures.caused.link (caused_by rounds most why _ e is)),
         Draws-then _ _ _ _ _ c.moment.ensures.reads (Draws-then _ _ _ _ _ s.moments l.6),
         subst (λ b. Draws (g.W.Words.gives v.words.now) (g.W.Words.gives b) (words_of rounds)) (sym c.leave-end.ensures.words) s.words,
         kept_left (O.written v.tape.now) (O.written w.tape.now) (O.written z.tape.now) (O.faults v.tape.now) (O.faults w.tape.now) (O.faults z.tape.now) (row_of v.process.now) rounds most why e s.lines
@@ -68,7 +68,7 @@ returns-in-Came g c =
         rests = j.rests;
       };
       up = λ calm. let ended = calm_end why l.1 c.leave-end.result l.4 calm in c.leave-end.ensures.up ∙ c.serve-served.ensures.up ended.0 ended.1;
-      device = end_counts why l.1 c.leave-end.result _ _ l.4 (subst (λ b. CountsFault why (g.D.Disk.told.count (low_disk v.store.now)) (g.D.Disk.told.count (low_disk b))) (sym c.leave-end.ensures.store) c.serve-served.ensures.device);
+      device = end_counts why l.1 c.leave-end.result _ _ l.4 (subst (λ b. CountsFault why (g.D.Disk.told.count (low_disk v.store.now)) (g.D.Disk.told.count (low_disk b))) (sym c.leave-end.ensures.store) c.serve-served.ensures.caused.device);
     }
 
 pub returns-in-NotYet : goal.returns-in-NotYet

@@ -10,15 +10,15 @@ use Rattle.low_process.specs.Looks.{is_idle_in, hand_of, hand_in, next_of}
 use Rattle.high_process.specs.States.{removed_of}
 use Rattle.relay_threads.specs.Records.{Made, recorded}
 use Rattle.script_reader.specs.Generated.{generated_row}
-use Rattle.race.specs.HighHalf.{HighAt, HandAt}
-use Rattle.race.specs.LowHalf.{LowRests, with_hand, frames_so_far}
+use Rattle.race.specs.HighRacers.{HighAt, HandAt}
+use Rattle.race.specs.LowRacers.{LowRests, with_hand, frames_so_far}
 use Rattle.race.specs.LowWorks.{IsLowDone}
 use Rattle.race.specs.MadeLooks.{moments_of, frames_of, acks_of}
 use Rattle.race.specs.Messages.{race_items, race_frames, messages_in}
 use Rattle.race.specs.Race.{AreRaceLooks, IsLowRun, IsHighRun, ArePrinted, payloads}
 use Rattle.race.specs.Turns.{turns, payload_in, done_in}
-use Rattle.race.specs.declared.high.HighHalf.{HighHalf}
-use Rattle.race.specs.declared.low.LowHalf.{LowHalf}
+use Rattle.race.specs.declared.high.HighRacer.{HighRacer}
+use Rattle.race.specs.declared.low.LowRacer.{LowRacer}
 use Rattle.race.proofs.LowAsks.{acks_are}
 use Rattle.race.proofs.Derived.{printed, received_is}
 use Rattle.race.proofs.RaceItems.{items_count}
@@ -35,7 +35,7 @@ nothing_behind : (items left whole : List Item) → items ++ left ≡ whole → 
 nothing_behind items [] whole is le = sym (append-nil items) ∙ is
 nothing_behind items (x ∷ left) whole is le = absurd (omega (arith, ap length is, length-append items (x ∷ left), le))
 
-module _ {L : Type 0} (stands : L → Low → High → Type 0) (shape : L → Shape) (w : LowHalf L) (made : List Made) (a : LowRests stands shape w made) where
+module _ {L : Type 0} (stands : L → Low → High → Type 0) (shape : L → Shape) (w : LowRacer L) (made : List Made) (a : LowRests stands shape w made) where
   pub looks_are : AreRaceLooks w.seed made
   looks_are = record {
     are_made = a.are_made;
@@ -48,8 +48,8 @@ module _ {L : Type 0} (stands : L → Low → High → Type 0) (shape : L → Sh
   }
 
   -- not more are stored than there are
-  pub next_few : next_of w.process ≤ w.count
-  next_few = omega (arith, a.stored, ap length a.messages, length-append (with_hand a.low.forwarded (hand_of w.process)) (messages_in w.script), items_count w.seed w.count)
+  pub next_few : next_of w.half.process ≤ w.count
+  next_few = omega (arith, a.stored, ap length a.messages, length-append (with_hand a.low.forwarded (hand_of w.half.process)) (messages_in w.script), items_count w.seed w.count)
 
   -- in the end all are acknowledged
   pub all_acked : IsLowDone w → done_in (acks_of made) ≡ w.count
@@ -57,8 +57,8 @@ module _ {L : Type 0} (stands : L → Low → High → Type 0) (shape : L → Sh
 
   pub low_ran : IsLowDone w → IsLowRun w.seed w.count made a.low
   low_ran (idle, all) =
-      let items = with_hand a.low.forwarded (hand_of w.process) in
-      let none : hand_of w.process ≡ None = empty_hand w.process.phase w.process.hand idle in
+      let items = with_hand a.low.forwarded (hand_of w.half.process) in
+      let none : hand_of w.half.process ≡ None = empty_hand w.half.process.phase w.half.process.hand idle in
       let whole : items ≡ race_items w.seed w.count = nothing_behind items (messages_in w.script) (race_items w.seed w.count) a.messages (omega (arith, a.stored, all, items_count w.seed w.count)) in
       record {
         looks = looks_are;
@@ -67,7 +67,7 @@ module _ {L : Type 0} (stands : L → Low → High → Type 0) (shape : L → Sh
         forwarded = sym (ap (with_hand a.low.forwarded) none) ∙ whole;
       }
     where
-      by_greeted : (b : Bool) → w.is_greeted ≡ b → with_hand a.low.forwarded (hand_of w.process) ≡ race_items w.seed w.count → w.count ≤ next_of w.process → frames_of made ≡ race_frames w.seed w.count
+      by_greeted : (b : Bool) → w.is_greeted ≡ b → with_hand a.low.forwarded (hand_of w.half.process) ≡ race_items w.seed w.count → w.count ≤ next_of w.half.process → frames_of made ≡ race_frames w.seed w.count
       by_greeted true e whole all = a.frames ∙ ap (λ (z : Bool × List Item). frames_so_far z.0 z.1) (λ i. (e i, whole i))
       by_greeted false e whole all = absurd (omega (arith, a.none_before e, a.some, all))
 
@@ -79,12 +79,12 @@ map_length : (xs : List Item) → length (map payload_in xs) ≡ length xs
 map_length [] = refl
 map_length (x ∷ xs) = omega (arith, map_length xs)
 
-module _ {H : Type 0} (stands : H → Low → High → Type 0) (w : HighHalf H) (a : HighAt stands false w) where
+module _ {H : Type 0} (stands : H → Low → High → Type 0) (w : HighRacer H) (a : HighAt stands false w) where
   -- as many are removed as there are
-  pub removed_all : w.count ≤ removed_of w.process → a.past.removed ≡ w.count
+  pub removed_all : w.count ≤ removed_of w.half.process → a.past.removed ≡ w.count
   removed_all all = omega (arith, a.few, all, a.is_past.holds.removed)
 
-  pub high_ran : w.count ≤ removed_of w.process → IsHighRun w.count w.times.items a.high a.received
+  pub high_ran : w.count ≤ removed_of w.half.process → IsHighRun w.count w.times.items a.high a.received
   high_ran all =
       let n : a.past.removed ≡ w.count = removed_all all in
       let b = begins a.before a.past.removed a.past.sends a.past.hand a.high.taken w.moment a.hand in
@@ -101,9 +101,9 @@ module _ {H : Type 0} (stands : H → Low → High → Type 0) (w : HighHalf H) 
   received_count = ap length a.received_are ∙ map_length a.before ∙ a.removed_are
 
 -- what is known once both works are over, their ends agree, and they had as many messages
-module _ {L H : Type 0} (stands : L → Low → High → Type 0) (shape : L → Shape) (low : LowHalf L) (made : List Made) (a : LowRests stands shape low made)
-    (high_stands : H → Low → High → Type 0) (high : HighHalf H) (b : HighAt high_stands false high)
-    (done : IsLowDone low) (all : high.count ≤ removed_of high.process) (same : low.count ≡ high.count) (agrees : Agrees (shape_of_row generated_row) a.low b.high) where
+module _ {L H : Type 0} (stands : L → Low → High → Type 0) (shape : L → Shape) (low : LowRacer L) (made : List Made) (a : LowRests stands shape low made)
+    (high_stands : H → Low → High → Type 0) (high : HighRacer H) (b : HighAt high_stands false high)
+    (done : IsLowDone low) (all : high.count ≤ removed_of high.half.process) (same : low.count ≡ high.count) (agrees : Agrees (shape_of_row generated_row) a.low b.high) where
   low_run : IsLowRun low.seed high.count made a.low
   low_run = subst (λ (n : ℕ). IsLowRun low.seed n made a.low) same (low_ran stands shape low made a done)
 
@@ -113,7 +113,7 @@ module _ {L H : Type 0} (stands : L → Low → High → Type 0) (shape : L → 
   pub received_by_both : b.received ≡ payloads low.seed high.count
   received_by_both = received_is low.seed high.count high.times.items made a.low b.high b.received low_run (high_ran high_stands high b all) agrees
 
-  pub low_count_is : next_of low.process ≡ high.count
+  pub low_count_is : next_of low.half.process ≡ high.count
   low_count_is = omega (arith, next_few stands shape low made a, done.1, same)
 
   pub high_count_is : b.past.removed ≡ high.count

@@ -8,7 +8,7 @@ use Rattle.pump_frame.specs.declared.frame.Kind.TheVariants.{Hello, Welcome, Dat
 use Rattle.pump_core.specs.Exchanges.{is_data}
 use Rattle.low_process.specs.Looks.{IsLawful as CanCome}
 use Rattle.relay_threads.specs.RecordLines.{HasLawfulFrame}
-use Rattle.race.specs.LowHalf.{arrival_in}
+use Rattle.race.specs.LowRacers.{arrival_in}
 use Rattle.race.specs.MadeLooks.{IsPlainArrival}
 
 number_of : (kind : Kind) (number : ℕ) (payload : List ℕ) → IsForm kind number payload → is_data kind ≡ true → number < 2 ^ 48

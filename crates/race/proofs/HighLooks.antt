@@ -21,7 +21,7 @@ use Rattle.high_process.specs.Past.{ProcessPast, next_time, wants, taken_up, is_
 use Rattle.high_process.specs.Ends.{TakesUp}
 use Rattle.script_reader.specs.Generated.{generated_row}
 use Rattle.race.specs.Turns.{turn, turns, CanTurn}
-use Rattle.race.specs.HighHalf.{SentBelow, IsNext, HandAt}
+use Rattle.race.specs.HighRacers.{SentBelow, IsNext, HandAt}
 use Rattle.race.proofs.HighNumbers.{is_below, not_below, not_at_most}
 
 -- ---- sendings ----

@@ -5,7 +5,7 @@ pub mod Frames
 pub mod HighAsks
 pub mod HighLooks
 pub mod HighNumbers
-pub mod KeptHalves
+pub mod KeptRacers
 pub mod LowAsks
 pub mod LowGoes
 pub mod LowLooks

@@ -10,11 +10,11 @@ use Rattle.low_process.specs.declared.values.Phase.TheVariants.{Idle, Passing, W
 use Rattle.low_process.specs.Looks.{next_of, last_of, is_idle, is_idle_in, phase_of, state_of}
 use Rattle.relay_threads.specs.Records.{Made, life_made, history_made}
 use Rattle.script_reader.specs.Generated.{generated_row}
-use Rattle.race.specs.LowHalf.{LowAt, owed_in}
+use Rattle.race.specs.LowRacers.{LowAt, owed_in}
 use Rattle.race.specs.MadeLooks.{acks_of}
 use Rattle.race.specs.Messages.{race_opening}
 use Rattle.race.specs.Turns.{done_in}
-use Rattle.race.specs.declared.low.LowHalf.{LowHalf}
+use Rattle.race.specs.declared.low.LowRacer.{LowRacer}
 
 idle_owes : (ph : Phase) (n : ℕ) → is_idle_in ph ≡ true → owed_in (phase_of ph n) ≡ 0
 idle_owes Idle n e = refl
@@ -33,17 +33,17 @@ by_phase : (idle : Bool) (b : Bool) (acks owed next n : ℕ) → idle ≡ b → 
 by_phase idle true acks owed next n e zero one all less is = omega (arith, zero e, all e, is)
 by_phase idle false acks owed next n e zero one all less is = omega (arith, one e, less e, is)
 
-module _ {L : Type 0} (stands : L → Low → High → Type 0) (shape : L → Shape) (w : LowHalf L) (left : List Item) (made : List Made) (a : LowAt stands shape w left made) where
-  stood : StandsAt generated_row (state_of w.process) (last_of w.process) (history_made race_opening made)
-  stood = subst (λ (r : SessionRow). StandsAt r (state_of w.process) (last_of w.process) (history_made race_opening made)) a.row a.history.stands
+module _ {L : Type 0} (stands : L → Low → High → Type 0) (shape : L → Shape) (w : LowRacer L) (left : List Item) (made : List Made) (a : LowAt stands shape w left made) where
+  stood : StandsAt generated_row (state_of w.half.process) (last_of w.half.process) (history_made race_opening made)
+  stood = subst (λ (r : SessionRow). StandsAt r (state_of w.half.process) (last_of w.half.process) (history_made race_opening made)) a.row a.history.stands
 
-  state_is : state_of w.process ≡ end_of generated_row race_opening a.parts
+  state_is : state_of w.half.process ≡ end_of generated_row race_opening a.parts
   state_is = stood.state ∙ ap (end_of generated_row race_opening) (one_cut generated_row (life_made race_opening made) stood.parts a.parts stood.cut a.cut)
 
-  owed_is : owed_in (phase_of w.process.phase w.process.hand.number) ≡ owed_in (phase_after generated_row race_opening a.parts)
+  owed_is : owed_in (phase_of w.half.process.phase w.half.process.hand.number) ≡ owed_in (phase_after generated_row race_opening a.parts)
   owed_is = ap (λ (q : State). owed_in q.phase) state_is
 
   -- all that are stored are acknowledged, but one that is passed on or waits
-  pub acks_are : (n : ℕ) → (is_idle w.process ≡ true → n ≡ next_of w.process) → (is_idle w.process ≡ false → n ≡ next_of w.process - 1) → n ≡ done_in (acks_of made)
-  acks_are n all less = by_phase (is_idle w.process) (is_idle w.process) (done_in (acks_of made)) (owed_in (phase_after generated_row race_opening a.parts)) (next_of w.process) n refl
-      (λ e. sym owed_is ∙ idle_owes w.process.phase w.process.hand.number e) (λ e. sym owed_is ∙ busy_owes w.process.phase w.process.hand.number e) all less a.acked
+  pub acks_are : (n : ℕ) → (is_idle w.half.process ≡ true → n ≡ next_of w.half.process) → (is_idle w.half.process ≡ false → n ≡ next_of w.half.process - 1) → n ≡ done_in (acks_of made)
+  acks_are n all less = by_phase (is_idle w.half.process) (is_idle w.half.process) (done_in (acks_of made)) (owed_in (phase_after generated_row race_opening a.parts)) (next_of w.half.process) n refl
+      (λ e. sym owed_is ∙ idle_owes w.half.process.phase w.half.process.hand.number e) (λ e. sym owed_is ∙ busy_owes w.half.process.phase w.half.process.hand.number e) all less a.acked

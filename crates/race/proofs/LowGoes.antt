@@ -1,4 +1,4 @@
--- A look carries the low half of a race on.
+-- A look carries the low racer on.
 use Rattle.std.proofs.Common.{◌≡◌, inl, inr, ℕ, ◌+◌, ◌^◌, ◌<◌, ◌≤◌, suc, Bool, true, false, List, [], ◌∷◌, ◌++◌, length, Option, Some, None, refl, sym, ap, ◌∙◌, subst, arith, append-nil, append_assoc}
 use Rattle.std.specs.Prelude.{◌||◌, is_some, IfSome}
 use Rattle.std.proofs.lemmas.List.{length-append, map-append}
@@ -32,11 +32,11 @@ use Rattle.relay_threads.proofs.Machine.{Led, led, reply_led}
 use Rattle.script_reader.specs.Generated.{drawn, generated_row}
 use Rattle.relay_threads.specs.RecordLines.{tells_fault}
 use Rattle.race.specs.LookWords.{word_after, word_of_look}
-use Rattle.race.specs.LowHalf.{LowAt, LowRests, IsOffer, goes_on, owed_in, with_hand, frames_so_far, arrival_in}
+use Rattle.race.specs.LowRacers.{LowAt, LowRests, IsOffer, goes_on, owed_in, with_hand, frames_so_far, arrival_in}
 use Rattle.race.specs.MadeLooks.{HaveWords, frames_of, frame_in, is_ack, acks_of}
 use Rattle.race.specs.Turns.{done_in}
 use Rattle.race.specs.Messages.{messages_in, race_items, race_opening, hello_frame, data_frame}
-use Rattle.race.specs.declared.low.LowHalf.{LowHalf}
+use Rattle.race.specs.declared.low.LowRacer.{LowRacer}
 use Rattle.race.proofs.Frames.{is_plain}
 use Rattle.race.proofs.HighAsks.{one_if, done_more}
 use Rattle.race.proofs.LowLooks.{Hears, Went, IsFine, nothing_comes, hello_comes, data_comes}
@@ -133,8 +133,8 @@ module _ (s : Shape) (on_one_thread : Bool) (after : Low → High → Type 0) (l
     full = λ t. absurd (cc);
   }
 
--- what a look leaves of the half but its process, store and end
-pub record Leaves {L : Type 0} (w w' : LowHalf L) (word : ℕ) (frame : Option Frame) : Type 0 where
+-- what a look leaves of the racer but its half and its word
+pub record Leaves {L : Type 0} (w w' : LowRacer L) (word : ℕ) (frame : Option Frame) : Type 0 where
   pub row : w'.row ≡ w.row
   pub seed : w'.seed ≡ w.seed
   pub count : w'.count ≡ w.count
@@ -143,15 +143,15 @@ pub record Leaves {L : Type 0} (w w' : LowHalf L) (word : ℕ) (frame : Option F
   pub word_is : w'.word ≡ word
   pub greeted : w'.is_greeted ≡ (w.is_greeted || is_some frame)
 
-module _ {L : Type 0} (stands : L → Low → High → Type 0) (shape : L → Shape) (on_one_thread : Bool) (w w' : LowHalf L) (left : List Item) (made : List Made) (a : LowAt stands shape w left made)
+module _ {L : Type 0} (stands : L → Low → High → Type 0) (shape : L → Shape) (on_one_thread : Bool) (w w' : LowRacer L) (left : List Item) (made : List Made) (a : LowAt stands shape w left made)
     (moment word : ℕ) (frame : Option Frame) (fault : Bool) (l : LowLook)
-    (step : LookStep plain_meaning w.process w'.process w.store w'.store moment word (arrival_in frame) fault l)
-    (store' : HasStore plain_meaning w'.process w'.store)
-    (hand' : hand_of w'.process ≡ hand_after (hand_of w.process) (arrival_in frame) l)
-    (row' : row_of w'.process ≡ row_of w.process)
-    (ends' : (lo : Low) (hi : High) → StandsFitting (stands w.ends) w.process lo hi → EndStep (shape w.ends) on_one_thread (StandsFitting (stands w'.ends) w'.process) lo hi (hand_of w.process) l.feedback)
-    (shape' : shape w'.ends ≡ shape w.ends)
-    (order : last_of w.process ≤ moment)
+    (step : LookStep plain_meaning w.half.process w'.half.process w.half.store w'.half.store moment word (arrival_in frame) fault l)
+    (store' : HasStore plain_meaning w'.half.process w'.half.store)
+    (hand' : hand_of w'.half.process ≡ hand_after (hand_of w.half.process) (arrival_in frame) l)
+    (row' : row_of w'.half.process ≡ row_of w.half.process)
+    (ends' : (lo : Low) (hi : High) → StandsFitting (stands w.half.ends) w.half.process lo hi → EndStep (shape w.half.ends) on_one_thread (StandsFitting (stands w'.half.ends) w'.half.process) lo hi (hand_of w.half.process) l.feedback)
+    (shape' : shape w'.half.ends ≡ shape w.half.ends)
+    (order : last_of w.half.process ≤ moment)
     (offer : IsOffer w frame left)
     (leaves : Leaves w w' word frame)
     (lawful : IfSome frame IsLawful)
@@ -179,40 +179,40 @@ module _ {L : Type 0} (stands : L → Low → High → Type 0) (shape : L → Sh
 
     -- what was forwarded, with the hand
     abbrev items : List Item
-    items = with_hand a.low.forwarded (hand_of w.process)
+    items = with_hand a.low.forwarded (hand_of w.half.process)
 
     -- ---- the store ----
 
-    room : low_size (row_of w.process) ≤ (low_disk w.store).room
-    room = subst (λ (r : SessionRow). low_size r ≤ (low_disk w.store).room) (sym a.row) a.free.1
+    room : low_size (row_of w.half.process) ≤ (low_disk w.half.store).room
+    room = subst (λ (r : SessionRow). low_size r ≤ (low_disk w.half.store).room) (sym a.row) a.free.1
 
-    served : StaysCalm (low_disk w.store) (low_disk w'.store) fault
-    served = stays_calm w.process w.store w'.store fault (a.store a.up) room a.free.0 arrival step.keeps
+    served : StaysCalm (low_disk w.half.store) (low_disk w'.half.store) fault
+    served = stays_calm w.half.process w.half.store w'.half.store fault (a.store a.up) room a.free.0 arrival step.keeps
 
-    free' : ((low_disk w'.store).armed ≡ false) × (low_size generated_row ≤ (low_disk w'.store).room)
+    free' : ((low_disk w'.half.store).armed ≡ false) × (low_size generated_row ≤ (low_disk w'.half.store).room)
     free' = (served.calm, omega (arith, served.room, a.free.1))
 
     -- ---- the history ----
 
-    looks : Looks (StandsFor w.process) w'.process generated_row x l
-    looks = subst (λ (z : SessionRow × Bool). Looks (StandsFor w.process) w'.process z.0 (look_of moment word arrival z.1 l.feedback) l) (λ i. (a.row i, served.fine i)) step.looks
+    looks : Looks (StandsFor w.half.process) w'.half.process generated_row x l
+    looks = subst (λ (z : SessionRow × Bool). Looks (StandsFor w.half.process) w'.half.process z.0 (look_of moment word arrival z.1 l.feedback) l) (λ i. (a.row i, served.fine i)) step.looks
 
-    history' : StandsFor w'.process (history_made race_opening (m ∷ made))
+    history' : StandsFor w'.half.process (history_made race_opening (m ∷ made))
     history' = looks.history h a.history
 
-    row_is : row_of w'.process ≡ generated_row
+    row_is : row_of w'.half.process ≡ generated_row
     row_is = row' ∙ a.row
 
-    stands' : StandsAt generated_row (state_of w'.process) (last_of w'.process) (history_made race_opening (m ∷ made))
-    stands' = subst (λ (r : SessionRow). StandsAt r (state_of w'.process) (last_of w'.process) (history_made race_opening (m ∷ made))) row_is history'.stands
+    stands' : StandsAt generated_row (state_of w'.half.process) (last_of w'.half.process) (history_made race_opening (m ∷ made))
+    stands' = subst (λ (r : SessionRow). StandsAt r (state_of w'.half.process) (last_of w'.half.process) (history_made race_opening (m ∷ made))) row_is history'.stands
 
-    stood : StandsAt generated_row (state_of w.process) (last_of w.process) h
-    stood = subst (λ (r : SessionRow). StandsAt r (state_of w.process) (last_of w.process) h) a.row a.history.stands
+    stood : StandsAt generated_row (state_of w.half.process) (last_of w.half.process) h
+    stood = subst (λ (r : SessionRow). StandsAt r (state_of w.half.process) (last_of w.half.process) h) a.row a.history.stands
 
     abbrev parts' : List Part
     parts' = stands'.parts
 
-    state_is : state_of w.process ≡ s
+    state_is : state_of w.half.process ≡ s
     state_is = stood.state ∙ ap (end_of generated_row race_opening) (one_cut generated_row (life_made race_opening made) stood.parts a.parts stood.cut a.cut)
 
     goes : Led generated_row race_opening a.parts x parts'
@@ -237,54 +237,54 @@ module _ {L : Type 0} (stands : L → Low → High → Type 0) (shape : L → Sh
     taken_is = looks.taken h parts' a.history stands'.cut ∙ goes.newest.taken
 
     reply_is : l.reply ≡ reply_at generated_row s x
-    reply_is = reply_led generated_row s (last_of w.process) h x l.reply (replies_made made) goes.fits (subst (λ (q : State). StandsAt generated_row q (last_of w.process) h) state_is stood) a.replies replies'
+    reply_is = reply_led generated_row s (last_of w.half.process) h x l.reply (replies_made made) goes.fits (subst (λ (q : State). StandsAt generated_row q (last_of w.half.process) h) state_is stood) a.replies replies'
 
-    next_is : next_of w.process ≡ s.next
+    next_is : next_of w.half.process ≡ s.next
     next_is = ap (λ (q : State). q.next) state_is
 
-    phase_is : phase_of w.process.phase w.process.hand.number ≡ s.phase
+    phase_is : phase_of w.half.process.phase w.half.process.hand.number ≡ s.phase
     phase_is = ap (λ (q : State). q.phase) state_is
 
     abbrev after_end : Low → High → Type 0
-    after_end = StandsFitting (stands w'.ends) w'.process
+    after_end = StandsFitting (stands w'.half.ends) w'.half.process
 
-    the_step : EndStep (shape w.ends) on_one_thread after_end a.low new_high (hand_of w.process) l.feedback
+    the_step : EndStep (shape w.half.ends) on_one_thread after_end a.low new_high (hand_of w.half.process) l.feedback
     the_step = ends' a.low new_high a.fitting
 
     stored_count : length items ≡ s.next
     stored_count = a.stored ∙ next_is
 
     -- what is left where nothing was stored
-    ended_by : (p : phases.Phase) → s.phase ≡ p → Hears p l.feedback → l.stored ≡ None → Ended after_end items (hand_of w'.process) (a.low.pairs ++ pair_in l.feedback) (is_full l.feedback) s.next
+    ended_by : (p : phases.Phase) → s.phase ≡ p → Hears p l.feedback → l.stored ≡ None → Ended after_end items (hand_of w'.half.process) (a.low.pairs ++ pair_in l.feedback) (is_full l.feedback) s.next
     ended_by p e hears none =
-        let same : hand_of w'.process ≡ hand_passed (hand_of w.process) l.feedback = hand' ∙ ap (hand_stored (hand_passed (hand_of w.process) l.feedback) arrival) none in
+        let same : hand_of w'.half.process ≡ hand_passed (hand_of w.half.process) l.feedback = hand' ∙ ap (hand_stored (hand_passed (hand_of w.half.process) l.feedback) arrival) none in
         by_phase p e hears same
       where
-        by_quiet : hand_of w'.process ≡ hand_passed (hand_of w.process) l.feedback → l.feedback ≡ Quiet → Ended after_end items (hand_of w'.process) (a.low.pairs ++ pair_in l.feedback) (is_full l.feedback) s.next
-        by_quiet same quiet = quiet_end (shape w.ends) on_one_thread after_end a.low items s.next a.shape_is (hand_of w.process) (hand_of w'.process) l.feedback quiet (same ∙ ap (hand_passed (hand_of w.process)) quiet) refl the_step
+        by_quiet : hand_of w'.half.process ≡ hand_passed (hand_of w.half.process) l.feedback → l.feedback ≡ Quiet → Ended after_end items (hand_of w'.half.process) (a.low.pairs ++ pair_in l.feedback) (is_full l.feedback) s.next
+        by_quiet same quiet = quiet_end (shape w.half.ends) on_one_thread after_end a.low items s.next a.shape_is (hand_of w.half.process) (hand_of w'.half.process) l.feedback quiet (same ∙ ap (hand_passed (hand_of w.half.process)) quiet) refl the_step
 
-        by_phase : (p : phases.Phase) → s.phase ≡ p → Hears p l.feedback → hand_of w'.process ≡ hand_passed (hand_of w.process) l.feedback
-            → Ended after_end items (hand_of w'.process) (a.low.pairs ++ pair_in l.feedback) (is_full l.feedback) s.next
+        by_phase : (p : phases.Phase) → s.phase ≡ p → Hears p l.feedback → hand_of w'.half.process ≡ hand_passed (hand_of w.half.process) l.feedback
+            → Ended after_end items (hand_of w'.half.process) (a.low.pairs ++ pair_in l.feedback) (is_full l.feedback) s.next
         by_phase phases.Idle e hears same = by_quiet same hears
         by_phase (phases.Waiting n due) e hears same = by_quiet same hears
         by_phase phases.Down e hears same = by_quiet same hears
         by_phase (phases.Passing owed) e hears same =
-            let item : Item = w.process.hand in
-            let at : hand_of w.process ≡ Some item = passing_hand w.process.phase item.number item owed (phase_is ∙ e) in
-            passing_end (shape w.ends) on_one_thread after_end a.low items s.next a.shape_is item (hand_of w'.process) l.feedback owed hears (same ∙ ap (λ (o : Option Item). hand_passed o l.feedback) at)
-            (sym (ap (with_hand a.low.forwarded) at)) stored_count (subst (λ (o : Option Item). EndStep (shape w.ends) on_one_thread after_end a.low new_high o l.feedback) at the_step)
+            let item : Item = w.half.process.hand in
+            let at : hand_of w.half.process ≡ Some item = passing_hand w.half.process.phase item.number item owed (phase_is ∙ e) in
+            passing_end (shape w.half.ends) on_one_thread after_end a.low items s.next a.shape_is item (hand_of w'.half.process) l.feedback owed hears (same ∙ ap (λ (o : Option Item). hand_passed o l.feedback) at)
+            (sym (ap (with_hand a.low.forwarded) at)) stored_count (subst (λ (o : Option Item). EndStep (shape w.half.ends) on_one_thread after_end a.low new_high o l.feedback) at the_step)
 
     -- .. and where this message was
     ended_stored : (item : Item) → item.number ≡ s.next → s.phase ≡ phases.Idle → l.feedback ≡ Quiet → l.stored ≡ Some s.next → arrival ≡ Came (data_frame item)
-        → Ended after_end (items ++ item ∷ []) (hand_of w'.process) (a.low.pairs ++ pair_in l.feedback) (is_full l.feedback) (s.next + 1)
+        → Ended after_end (items ++ item ∷ []) (hand_of w'.half.process) (a.low.pairs ++ pair_in l.feedback) (is_full l.feedback) (s.next + 1)
     ended_stored item number idle quiet stored came =
-        let none : hand_of w.process ≡ None = idle_hand w.process.phase w.process.hand.number w.process.hand (phase_is ∙ idle) in
-        let hand_now : hand_of w'.process ≡ Some item =
+        let none : hand_of w.half.process ≡ None = idle_hand w.half.process.phase w.half.process.hand.number w.half.process.hand (phase_is ∙ idle) in
+        let hand_now : hand_of w'.half.process ≡ Some item =
         hand' ∙ ap (λ (z : Option Item × Feedback × Arrival × Option ℕ). hand_stored (hand_passed z.0 z.1) z.2 z.3) (λ i. (none i, quiet i, came i, stored i))
         ∙ ap (λ (n : ℕ). Some (record { number = n; payload = item.payload })) (sym number) in
         record {
           low = a.low;
-          stands = subst (λ (k : Feedback). EndStep (shape w.ends) on_one_thread after_end a.low new_high (hand_of w.process) k) quiet the_step;
+          stands = subst (λ (k : Feedback). EndStep (shape w.half.ends) on_one_thread after_end a.low new_high (hand_of w.half.process) k) quiet the_step;
           items_are = ap (with_hand a.low.forwarded) hand_now ∙ ap (λ (o : Option Item). with_hand a.low.forwarded o ++ item ∷ []) (sym none);
           pairs_are = sym (append-nil a.low.pairs) ∙ ap (λ (k : Feedback). a.low.pairs ++ pair_in k) (sym quiet);
           full = λ t. (let no = sym t ∙ ap is_full quiet in absurd (cc));
@@ -298,9 +298,9 @@ module _ {L : Type 0} (stands : L → Low → High → Type 0) (shape : L → Sh
     finish : (next' : ℕ) (greeted' : Bool) (stored : Option ℕ) (items' : List Item) → Went generated_row s x s.phase next' greeted' stored → w'.is_greeted ≡ greeted'
         → items' ++ messages_in w.script ≡ race_items w.seed w.count → length items' ≡ next'
         → frames_of made ++ frame_in arrival ≡ frames_so_far greeted' items'
-        → Ended after_end items' (hand_of w'.process) (a.low.pairs ++ pair_in l.feedback) (is_full l.feedback) next' → (greeted' ≡ false → next' ≡ 0) → Carried
+        → Ended after_end items' (hand_of w'.half.process) (a.low.pairs ++ pair_in l.feedback) (is_full l.feedback) next' → (greeted' ≡ false → next' ≡ 0) → Carried
     finish next' greeted' stored items' went greeted messages count frames ended none_before =
-        let now : next_of w'.process ≡ next' = ap (λ (q : State). q.next) stands'.state ∙ ap (λ (q : State). q.next) goes.state ∙ went.next_is in
+        let now : next_of w'.half.process ≡ next' = ap (λ (q : State). q.next) stands'.state ∙ ap (λ (q : State). q.next) goes.state ∙ went.next_is in
         let on : goes_on (phase_after generated_row race_opening parts') ≡ true = ap (λ (q : State). goes_on q.phase) goes.state ∙ went.goes in
         let one : length made + 1 ≡ suc (length made) = omega arith in
         let acked_here : one_if (is_ack l.reply) + owed_in (phase_after generated_row race_opening parts') + s.next ≡ next' + owed_in s.phase =
@@ -318,7 +318,7 @@ module _ {L : Type 0} (stands : L → Low → High → Type 0) (shape : L → Sh
           greeted = ap (λ (q : State). q.greeted) goes.state ∙ went.greeted_is ∙ sym greeted;
           row = row_is;
           row_too = leaves.row ∙ a.row_too;
-          up = up_phase w'.process.phase w'.process.hand.number (ap (λ (q : State). goes_on q.phase) stands'.state ∙ on);
+          up = up_phase w'.half.process.phase w'.half.process.hand.number (ap (λ (q : State). goes_on q.phase) stands'.state ∙ on);
           store = store';
           free = free';
           some = omega (arith, a.some, leaves.count);
@@ -337,7 +337,7 @@ module _ {L : Type 0} (stands : L → Low → High → Type 0) (shape : L → Sh
           frames = frames ∙ ap (λ (z : Bool × List Item). frames_so_far z.0 z.1) (λ i. (sym greeted i, sym ended.items_are i));
           none_before = λ e. now ∙ none_before (sym greeted ∙ e);
           acked = counts_on (done_in (acks_of made)) (owed_in s.phase) s.next (one_if (is_ack l.reply)) (owed_in (phase_after generated_row race_opening parts')) next'
-              (done_in (is_ack l.reply ∷ acks_of made)) (next_of w.process) (next_of w'.process) (done_more (is_ack l.reply) (acks_of made)) acked_here a.acked next_is now;
+              (done_in (is_ack l.reply ∷ acks_of made)) (next_of w.half.process) (next_of w'.half.process) (done_more (is_ack l.reply) (acks_of made)) acked_here a.acked next_is now;
         })
 
     -- ---- by what comes ----
@@ -360,7 +360,7 @@ module _ {L : Type 0} (stands : L → Low → High → Type 0) (shape : L → Sh
         (ended_by s.phase refl went.hears (stored_is ∙ went.stored_is)) (λ k. none_was (sym a.greeted ∙ k))
     by_frame (Some f) e (idle, inl (not_greeted, is, left_is)) =
         let came : arrival ≡ Came hello_frame = ap arrival_in e ∙ ap Came is in
-        let at : s.phase ≡ phases.Idle = sym phase_is ∙ idle_phase w.process.phase w.process.hand.number idle in
+        let at : s.phase ≡ phases.Idle = sym phase_is ∙ idle_phase w.half.process.phase w.half.process.hand.number idle in
         let went : Went generated_row s x s.phase s.next true None = subst (λ (z : Arrival). Went generated_row s (look_of moment word z false l.feedback) s.phase s.next true None) (sym came)
         (hello_comes s moment word l.feedback a.phase at (subst (λ (z : Arrival). FeedbackFits generated_row s (look_of moment word z false l.feedback)) came goes.fits)) in
         let zero_is : s.next ≡ 0 = none_was not_greeted in
@@ -375,7 +375,7 @@ module _ {L : Type 0} (stands : L → Low → High → Type 0) (shape : L → Sh
         let next : IsNextOf w.count items item = next_of_race w.seed w.count items item rest whole in
         let number : item.number ≡ s.next = next.number ∙ stored_count in
         let came : arrival ≡ Came (data_frame item) = ap arrival_in e ∙ ap Came is in
-        let at : s.phase ≡ phases.Idle = sym phase_is ∙ idle_phase w.process.phase w.process.hand.number idle in
+        let at : s.phase ≡ phases.Idle = sym phase_is ∙ idle_phase w.half.process.phase w.half.process.hand.number idle in
         let went : Went generated_row s x s.phase (s.next + 1) true (Some s.next) = subst (λ (z : Arrival). Went generated_row s (look_of moment word z false l.feedback) s.phase (s.next + 1) true (Some s.next)) (sym came)
         (data_comes s moment word l.feedback a.phase item number next.short (a.greeted ∙ is_greeted) (omega (arith, few_here, a.few)) at (subst (λ (z : Arrival). FeedbackFits generated_row s (look_of moment word z false l.feedback)) came goes.fits)) in
         let quiet : l.feedback ≡ Quiet = subst (λ (p : phases.Phase). Hears p l.feedback) at went.hears in

@@ -19,7 +19,7 @@ use Rattle.pump_frame.specs.declared.frame.Item.{Item}
 use Rattle.script_reader.specs.Generated.{generated_row}
 use Rattle.race.specs.Messages.{hello_frame, data_frame}
 use Rattle.relay_threads.specs.RecordLines.{tells_fault}
-use Rattle.race.specs.LowHalf.{goes_on, owed_in}
+use Rattle.race.specs.LowRacers.{goes_on, owed_in}
 use Rattle.race.specs.MadeLooks.{is_ack}
 use Rattle.race.proofs.HighAsks.{one_if}
 use Rattle.race.proofs.Comparisons.{is_below, not_below, is_past}

@@ -10,7 +10,7 @@ use Rattle.high_receiver.specs.Steps.{TakesMessage}
 use Rattle.high_receiver.specs.declared.receiver.Receiver.{Receiver}
 use Rattle.high_receiver.specs.declared.values.Taken.{Taken}
 use Rattle.race.specs.Turns.{payload_in}
-use Rattle.race.specs.HighHalf.{HasReceived}
+use Rattle.race.specs.HighRacers.{HasReceived}
 use Rattle.race.proofs.HighNumbers.{not_below}
 
 -- the next message is stored, since there is room for it

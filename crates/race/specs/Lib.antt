@@ -1,7 +1,7 @@
-pub mod HighHalf
+pub mod HighRacers
 pub mod HighWorks
 pub mod LookWords
-pub mod LowHalf
+pub mod LowRacers
 pub mod LowWorks
 pub mod MadeLooks
 pub mod Messages

@@ -1,4 +1,4 @@
-// The low half of a race: the low process, and the low party.
+// The low racer: the low half of a session, and the low party.
 ghost use Rattle.std.specs.Prelude.{◌≡◌, ◌≤◌, ◌-◌, ◌^◌, List, ◌∷◌, true, false, IfSome};
 ghost use Rattle.pump_frame.specs.declared.frame.Item.{Item};
 ghost use Rattle.stable_buffer.specs.Low.{low_disk};
@@ -9,13 +9,13 @@ ghost use Rattle.script_reader.specs.Generated.{generated_row};
 ghost use Rattle.pump_frame.specs.Frames.{IsLawful};
 ghost use Rattle.pump_core.specs.ReplyFrames.{IsLawfulReply};
 ghost use Rattle.relay_threads.specs.RecordLines.{made_by};
-ghost use Rattle.race.specs.LowHalf.{LowAt, LowRests, LowBegins, LowStays, IsOffer, offered, arrival_in};
+ghost use Rattle.race.specs.LowRacers.{LowAt, LowRests, LowBegins, LowStays, IsOffer, offered, arrival_in};
 ghost use Rattle.race.specs.Messages.{messages_in, race_items};
 ghost use Rattle.race.specs.NewDisks.{IsNewLow};
 
 use crate::messages::{next_message, next_word, put_hello};
 use disk_model::PlainDisk;
-use low_process::{Arrival, LookHead, LowProcess};
+use low_process::{Arrival, LookHead, LowHalf, LowProcess};
 use passage::WaitLowEnd;
 use pump_frame::{Frame, SessionRow};
 use relay_threads::LookMade;
@@ -23,13 +23,11 @@ use script_reader::{Body, Generator};
 use stable_buffer::LowStore;
 use std::sync::Wait;
 
-/// The low half of a race: the low process with its store and its end, and the low party, which sends
-/// the messages of a generated script.
+/// The low side of a race: the low half of the session, and the low party, which sends the messages of a
+/// generated script.
 #[derive(Drop)]
-pub struct LowHalf<L> {
-    pub ends: L,
-    pub process: LowProcess,
-    pub store: LowStore<PlainDisk>,
+pub struct LowRacer<L> {
+    pub half: LowHalf<PlainDisk, L>,
     pub row: SessionRow,
     pub seed: u32,
     /// How many messages there are in all.
@@ -53,8 +51,8 @@ fn arrival_of_frame(comes: bool, frame: &Frame) -> Arrival<'_>
     }
 }
 
-impl<L: WaitLowEnd> LowHalf<L> {
-    /// The half before its first look. The row and the script are those of the seed, and the script
+impl<L: WaitLowEnd> LowRacer<L> {
+    /// The racer before its first look. The row and the script are those of the seed, and the script
     /// has all messages left.
     pub fn start(
         ends: L,
@@ -63,7 +61,7 @@ impl<L: WaitLowEnd> LowHalf<L> {
         script: Generator,
         seed: u32,
         count: u32,
-    ) -> LowHalf<L>
+    ) -> LowRacer<L>
         requires row { row.now ≡ generated_row }
         requires stands { L.stands ends new_low new_high }
         requires shape { L.shape ends ≡ shape_of_row generated_row }
@@ -72,14 +70,17 @@ impl<L: WaitLowEnd> LowHalf<L> {
         requires some { 1 ≤ count }
         requires few { count ≤ 100000 }
         ensures begins { LowBegins L.stands L.shape result }
-        ensures ends { result.ends ≡ ends }
+        ensures ends { result.half.ends ≡ ends }
         ensures seed { result.seed ≡ seed }
         ensures count { result.count ≡ count }
     {
-        LowHalf {
-            ends,
+        let half = LowHalf {
             process: LowProcess::open(row, 0, None),
             store,
+            ends,
+        };
+        LowRacer {
+            half,
             row: *row,
             seed,
             count,
@@ -98,12 +99,12 @@ impl<L: WaitLowEnd> LowHalf<L> {
             → (left : List Item) × LowAt L.stands L.shape self.new left made
             × IsOffer self.new (offered result into.new) left }
         ensures lawful { IfSome (offered result into.new) IsLawful }
-        ensures process { self.new.process ≡ self.old.process }
-        ensures ends { self.new.ends ≡ self.old.ends }
+        ensures process { self.new.half.process ≡ self.old.half.process }
+        ensures ends { self.new.half.ends ≡ self.old.half.ends }
         ensures seed { self.new.seed ≡ self.old.seed }
         ensures count { self.new.count ≡ self.old.count }
     {
-        if !self.process.wants() {
+        if !self.half.process.wants() {
             return false;
         }
         if !self.is_greeted {
@@ -124,7 +125,7 @@ impl<L: WaitLowEnd> LowHalf<L> {
         requires at { (made : List Made) × ((left : List Item)
             × LowAt L.stands L.shape self.old left made × IsOffer self.old (offered comes frame.now) left) }
         requires lawful { IfSome (offered comes frame.now) IsLawful }
-        requires order { last_of self.old.process ≤ moment }
+        requires order { last_of self.old.half.process ≤ moment }
         requires moment { moment ≤ 2 ^ 62 }
         ensures at { (made : List Made) (left : List Item) → LowAt L.stands L.shape self.old left made
             → IsOffer self.old (offered comes frame.now) left
@@ -132,20 +133,20 @@ impl<L: WaitLowEnd> LowHalf<L> {
         ensures moment { result.moment ≡ moment }
         ensures arrival { arrival_of result.arrival ≡ arrival_in (offered comes frame.now) }
         ensures reply { IfSome result.look.reply IsLawfulReply }
-        ensures last { last_of self.new.process ≡ moment }
+        ensures last { last_of self.new.half.process ≡ moment }
         ensures stays { LowStays L.place L.shape self.old self.new }
     {
         let word = next_word(self.word);
         self.word = word;
         let arrival = arrival_of_frame(comes, frame);
         let mut look = LookHead::new();
-        self.process.look_waiting_into(
+        self.half.process.look_waiting_into(
             rt,
             moment,
             word,
             arrival,
-            &mut self.store,
-            &mut self.ends,
+            &mut self.half.store,
+            &mut self.half.ends,
             &mut look,
         );
         self.is_greeted = self.is_greeted | comes;
@@ -157,31 +158,31 @@ impl<L: WaitLowEnd> LowHalf<L> {
         }
     }
 
-    /// Its end and its disk, as it left them.
-    pub fn into_end(self) -> (L, PlainDisk)
-        ensures end { result.0 ≡ self.ends }
-        ensures disk { result.1 ≡ low_disk self.store }
+    /// Its disk and its end, as it left them.
+    pub fn into_disk(self) -> (PlainDisk, L)
+        ensures disk { result.0 ≡ low_disk self.half.store }
+        ensures end { result.1 ≡ self.half.ends }
     {
-        let LowHalf { ends, store, .. } = self;
-        (ends, store.into_disk())
+        self.half.into_disk()
     }
 
     /// All messages are stored, passed on and acknowledged.
     pub fn is_done(&self) -> bool
-        ensures { result ≡ true → (is_idle self.now.process ≡ true) × (self.now.count ≤ next_of self.now.process) }
+        ensures { result ≡ true → (is_idle self.now.half.process ≡ true)
+            × (self.now.count ≤ next_of self.now.half.process) }
     {
-        self.process.wants() && self.process.next() >= u64::from(self.count)
+        self.half.process.wants() && self.half.process.next() >= u64::from(self.count)
     }
 
     /// How many messages are acknowledged: all that are stored, but one that is passed on or waits.
     pub fn acknowledged(&self) -> u64
-        ensures idle { is_idle self.now.process ≡ true → result ≡ next_of self.now.process }
-        ensures busy { is_idle self.now.process ≡ false → result ≡ next_of self.now.process - 1 }
+        ensures idle { is_idle self.now.half.process ≡ true → result ≡ next_of self.now.half.process }
+        ensures busy { is_idle self.now.half.process ≡ false → result ≡ next_of self.now.half.process - 1 }
     {
-        if self.process.wants() {
-            self.process.next()
+        if self.half.process.wants() {
+            self.half.process.next()
         } else {
-            self.process.next().saturating_sub(1)
+            self.half.process.next().saturating_sub(1)
         }
     }
 }

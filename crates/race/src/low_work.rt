@@ -2,7 +2,7 @@
 ghost use Rattle.std.specs.Prelude.{◌≡◌};
 ghost use Rattle.pump_core.specs.Step.{is_full};
 
-use crate::low::LowHalf;
+use crate::low::LowRacer;
 use crate::messages::no_frame;
 use crate::tape::Tape;
 use low_process::LookHead;
@@ -28,11 +28,11 @@ fn make_way(look: &LookHead) {
     }
 }
 
-/// The low worker of a race: its half, the clock, the sink with the tape before it, and the gate that
+/// The low worker of a race: its racer, the clock, the sink with the tape before it, and the gate that
 /// lets it go on.
 #[derive(Drop)]
-pub struct LowWork<'h, 'k, 'o, 't, 'g, K, O, L, G> {
-    pub half: &'h mut LowHalf<L>,
+pub struct LowRaceWork<'h, 'k, 'o, 't, 'g, K, O, L, G> {
+    pub racer: &'h mut LowRacer<L>,
     pub clock: &'k mut K,
     pub out: &'o mut O,
     pub tape: &'t mut Tape,
@@ -41,7 +41,8 @@ pub struct LowWork<'h, 'k, 'o, 't, 'g, K, O, L, G> {
     pub is_stopped: bool,
 }
 
-impl<K: Clock, O: Sink, L: WaitLowEnd, G: Gate> Work for LowWork<'_, '_, '_, '_, '_, K, O, L, G> {
+impl<K: Clock, O: Sink, L: WaitLowEnd, G: Gate> Work
+    for LowRaceWork<'_, '_, '_, '_, '_, K, O, L, G> {
     ghost use Rattle.race.specs.LowWorks.{LowCan, LowRuns};
 
     ghost can_run = { LowCan K.reads K.floor O.written O.faults L.stands L.place L.shape G.asked G.stops };
@@ -54,17 +55,17 @@ impl<K: Clock, O: Sink, L: WaitLowEnd, G: Gate> Work for LowWork<'_, '_, '_, '_,
         // The frame that comes to a look: it is written over by the next one.
         let mut frame = no_frame();
         for _ in rt.forever() {
-            if self.half.is_done() {
+            if self.racer.is_done() {
                 return;
             }
-            let acknowledged = self.half.acknowledged();
+            let acknowledged = self.racer.acknowledged();
             if !self.gate.pass(rt, looks, acknowledged) {
                 self.is_stopped = true;
                 return;
             }
-            let comes = self.half.next_frame(&mut frame);
+            let comes = self.racer.next_frame(&mut frame);
             let moment = self.clock.moment();
-            let made = self.half.look_with(rt, moment, comes, &frame);
+            let made = self.racer.look_with(rt, moment, comes, &frame);
             looks = looks.saturating_add(1);
             self.tape.look(self.out, &made, was_full);
             was_full = found_full(&made.look);

@@ -6,7 +6,7 @@ ghost use Rattle.pump_frame.specs.Rows.{IsLawfulRow};
 ghost use Rattle.stable_buffer.specs.Format.{FormatStands, second_of, size_of};
 ghost use Rattle.stable_buffer.specs.Register.{IsReady, register_disk, register_value};
 ghost use Rattle.script_reader.specs.Generated.{generated_row};
-ghost use Rattle.race.specs.HighHalf.{HasReceived};
+ghost use Rattle.race.specs.HighRacers.{HasReceived};
 ghost use Rattle.race.specs.NewDisks.{IsNewLow, IsNewHigh};
 
 use disk_model::{PlainDisk, Role};

@@ -5,16 +5,16 @@ ghost use Rattle.pump_link.specs.Tells.{Draws, Grows};
 ghost use Rattle.pump_core.specs.Passage.{shape_of_row};
 ghost use Rattle.relay_ring.specs.RingEnds.{LowEndStands, HighEndStands, low_place, high_place, low_shape, high_shape};
 ghost use Rattle.script_reader.specs.Generated.{generated_row};
-ghost use Rattle.race.specs.HighHalf.{HighBegins};
-ghost use Rattle.race.specs.LowHalf.{LowBegins};
+ghost use Rattle.race.specs.HighRacers.{HighBegins};
+ghost use Rattle.race.specs.LowRacers.{LowBegins};
 ghost use Rattle.race.specs.Race.{IsRaceRecord, IsStoppedRecord, AreRaceDisks};
 ghost use Rattle.race.specs.Tape.{Written};
 ghost use Rattle.race.specs.Turns.{CanTurn, AsksHigh, CountsStop};
 
-use crate::high::HighHalf;
-use crate::low::LowHalf;
+use crate::high::HighRacer;
+use crate::low::LowRacer;
 use crate::new_disks::new_disks;
-use crate::running::run_halves;
+use crate::running::run_sides;
 use crate::tape::{Ending, Tape};
 use disk_model::PlainDisk;
 use passage::Calm;
@@ -41,9 +41,9 @@ pub struct RaceEnd {
     pub recv: PlainDisk,
 }
 
-/// Races the two halves over the ends of one passage, and prints the record. `OutOfMemory` where the second
+/// Races both sides over the ends of one passage, and prints the record. `OutOfMemory` where the second
 /// thread can't be started: then nothing was written.
-fn race_halves<
+fn race_sides<
     R: Threads + Wait + Sync,
     K: Clock + Send,
     O: Sink + Send,
@@ -51,8 +51,8 @@ fn race_halves<
     H: Gate + Send,
 >(
     rt: &R,
-    mut low: LowHalf<Calm<RingLow<'_>>>,
-    mut high: HighHalf<Calm<RingHigh<'_>>>,
+    mut low: LowRacer<Calm<RingLow<'_>>>,
+    mut high: HighRacer<Calm<RingHigh<'_>>>,
     low_clock: &mut K,
     out: &mut O,
     low_gate: &mut G,
@@ -60,8 +60,8 @@ fn race_halves<
 ) -> Result<RaceEnd, OutOfMemory>
     requires low { LowBegins (λ end. LowEndStands end.0) (λ end. low_shape end.0) low }
     requires high { HighBegins (λ end. HighEndStands end.0) high }
-    requires place { low_place low.ends.0 ≡ high_place high.ends.0 }
-    requires shape { high_shape high.ends.0 ≡ shape_of_row generated_row }
+    requires place { low_place low.half.ends.0 ≡ high_place high.half.ends.0 }
+    requires shape { high_shape high.half.ends.0 ≡ shape_of_row generated_row }
     requires count { low.count ≡ high.count }
     ensures record { IfOk result (λ end. end.low_stopped ≡ false → end.high_stopped ≡ false → (bytes readings : List ℕ)
         × (asks : List (ℕ × ℕ))
@@ -87,19 +87,19 @@ fn race_halves<
 {
     let mut tape = Tape::new(&low.row);
     tape.open();
-    let raced = run_halves(
+    let raced = run_sides(
         rt, &mut low, &mut high, low_clock, out, &mut tape, low_gate, high_gate,
     )?;
     let ending = Ending {
         times: high.times.as_slice(),
         count: high.count,
         received: high.receiver.count(),
-        accepted: low.process.next(),
-        removed: high.process.removed(),
+        accepted: low.half.process.next(),
+        removed: high.half.process.removed(),
     };
     let write_failed = tape.close(out, raced.low_stopped | raced.high_stopped, &ending);
-    let (low_end, low_disk) = low.into_end();
-    let (high_end, high_disk, recv_disk) = high.into_end();
+    let (low_disk, low_end) = low.into_disk();
+    let (high_disk, high_end, recv_disk) = high.into_disks();
     RingPassage::rejoin(low_end.0, high_end.0);
     Ok(RaceEnd {
         write_failed,
@@ -172,8 +172,8 @@ pub fn race_with<
     let disks = new_disks(alloc, &row, count)?;
     let (low_end, high_end) = passage.ends();
     let script = Generator::new(seed, count);
-    let low = LowHalf::start(Calm(low_end), disks.low, &row, script, seed, count);
-    let high = HighHalf::start(
+    let low = LowRacer::start(Calm(low_end), disks.low, &row, script, seed, count);
+    let high = HighRacer::start(
         Calm(high_end),
         disks.high,
         disks.receiver,
@@ -181,5 +181,5 @@ pub fn race_with<
         times,
         count,
     );
-    race_halves(rt, low, high, low_clock, out, low_gate, high_gate)
+    race_sides(rt, low, high, low_clock, out, low_gate, high_gate)
 }

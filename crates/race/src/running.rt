@@ -7,18 +7,18 @@ ghost use Rattle.relay_threads.specs.Records.{Made, record_of};
 ghost use Rattle.relay_threads.specs.RecordLines.{looks_text};
 ghost use Rattle.relay_threads.specs.Replays.{IsReadable};
 ghost use Rattle.script_reader.specs.Generated.{generated_row};
-ghost use Rattle.race.specs.HighHalf.{HighBegins, HighStays};
+ghost use Rattle.race.specs.HighRacers.{HighBegins, HighStays};
 ghost use Rattle.race.specs.HighWorks.{HighEnds};
-ghost use Rattle.race.specs.LowHalf.{LowRests, LowBegins, LowStays};
+ghost use Rattle.race.specs.LowRacers.{LowRests, LowBegins, LowStays};
 ghost use Rattle.race.specs.LowWorks.{LowEnds};
 ghost use Rattle.race.specs.MadeLooks.{moments_of, acks_of};
 ghost use Rattle.race.specs.Tape.{row_in, Prints};
 ghost use Rattle.race.specs.Turns.{AsksHigh, asks_in_run};
 
-use crate::high::HighHalf;
-use crate::high_work::HighWork;
-use crate::low::LowHalf;
-use crate::low_work::LowWork;
+use crate::high::HighRacer;
+use crate::high_work::HighRaceWork;
+use crate::low::LowRacer;
+use crate::low_work::LowRaceWork;
 use crate::tape::Tape;
 use passage::{WaitHighEnd, WaitLowEnd};
 use pump_frame::OutOfMemory;
@@ -34,9 +34,9 @@ pub struct Raced {
     pub high_stopped: bool,
 }
 
-/// Runs the works of the two halves side by side. `OutOfMemory` where the second thread can't be started:
+/// Runs the works of both racers side by side. `OutOfMemory` where the second thread can't be started:
 /// then nothing was written.
-pub fn run_halves<
+pub fn run_sides<
     R: Threads + Wait + Sync,
     K: Clock + Send,
     O: Sink + Send,
@@ -46,8 +46,8 @@ pub fn run_halves<
     I: Gate + Send,
 >(
     rt: &R,
-    low: &mut LowHalf<L>,
-    high: &mut HighHalf<H>,
+    low: &mut LowRacer<L>,
+    high: &mut HighRacer<H>,
     low_clock: &mut K,
     out: &mut O,
     tape: &mut Tape,
@@ -73,16 +73,16 @@ pub fn run_halves<
     ensures high_stays { IfOk result (λ _. HighStays H.place H.shape high.old high.new) }
     ensures nothing { OnErr result (out.new ≡ out.old) }
 {
-    let mut low_work = LowWork {
-        half: low,
+    let mut low_work = LowRaceWork {
+        racer: low,
         clock: low_clock,
         out,
         tape,
         gate: low_gate,
         is_stopped: false,
     };
-    let mut high_work = HighWork {
-        half: high,
+    let mut high_work = HighRaceWork {
+        racer: high,
         gate: high_gate,
         is_stopped: false,
     };

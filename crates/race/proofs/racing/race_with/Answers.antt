@@ -56,27 +56,27 @@ start-high-requires g c = record {
 pub returns : goal.returns
 returns g c = record {
   «record» =
-      of_end c.race_halves.result c.race_halves.ensures.record (λ end is low_on high_on.
+      of_end c.race_sides.result c.race_sides.ensures.record (λ end is low_on high_on.
       let (bytes, readings, asks, written, draws, asked, record_is) = is low_on high_on in
       let high = c.start-high.ensures in
       (bytes, readings, asks, written, draws, asked, subst (λ (z : ℕ × ℕ × List ℕ). IsRaceRecord z.0 z.1 z.2 readings asks bytes) (λ i. (c.start-low.ensures.seed i, high.count i, high.times i)) record_is));
   cut_short =
-      of_end c.race_halves.result c.race_halves.ensures.cut_short (λ end is stopped.
+      of_end c.race_sides.result c.race_sides.ensures.cut_short (λ end is stopped.
       let (bytes, readings, asks, written, draws, asked, record_is) = is stopped in
       (bytes, readings, asks, written, draws, asked, subst (λ (z : ℕ × ℕ). IsStoppedRecord z.0 z.1 end.low_stopped readings asks bytes) (λ i. (c.start-low.ensures.seed i, c.start-low.ensures.count i)) record_is));
   disks =
-      of_end c.race_halves.result c.race_halves.ensures.disks (λ end are low_on high_on.
+      of_end c.race_sides.result c.race_sides.ensures.disks (λ end are low_on high_on.
       subst (λ (z : ℕ × ℕ). AreRaceDisks z.0 z.1 end.low.bytes end.high.bytes end.recv.bytes) (λ i. (c.start-low.ensures.seed i, c.start-high.ensures.count i)) (are low_on high_on));
   failed =
-      of_both c.race_halves.result c.race_halves.ensures.record c.race_halves.ensures.cut_short (λ end whole cut.
+      of_both c.race_sides.result c.race_sides.ensures.record c.race_sides.ensures.cut_short (λ end whole cut.
       let O = g.O.Sink in
-      failed_of end.low_stopped end.high_stopped end.write_failed (Rose (O.faults c.args.out.now) (O.faults c.race_halves.new.out))
+      failed_of end.low_stopped end.high_stopped end.write_failed (Rose (O.faults c.args.out.now) (O.faults c.race_sides.new.out))
       (λ low_on high_on. (whole low_on high_on).3.cause) (λ stopped. (cut stopped).3.cause));
-  low_stopped = c.race_halves.ensures.low_stopped;
-  high_stopped = c.race_halves.ensures.high_stopped;
+  low_stopped = c.race_sides.ensures.low_stopped;
+  high_stopped = c.race_sides.ensures.high_stopped;
   asked_high =
-      of_end c.race_halves.result c.race_halves.ensures.asked_high (λ end asked.
+      of_end c.race_sides.result c.race_sides.ensures.asked_high (λ end asked.
       let H = g.H.Gate in
-      subst (λ (n : ℕ). AsksHigh n end.high_stopped (H.asked c.args.high_gate.now) (H.asked c.race_halves.new.high_gate) end.recv.bytes) c.start-high.ensures.count asked);
-  nothing = c.race_halves.ensures.nothing;
+      subst (λ (n : ℕ). AsksHigh n end.high_stopped (H.asked c.args.high_gate.now) (H.asked c.race_sides.new.high_gate) end.recv.bytes) c.start-high.ensures.count asked);
+  nothing = c.race_sides.ensures.nothing;
 }

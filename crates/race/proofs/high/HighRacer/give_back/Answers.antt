@@ -17,9 +17,9 @@ use Rattle.high_process.specs.Looks.{Looked}
 use Rattle.high_process.specs.States.{row_of, removed_of, hand_of, task_at, attaches_at}
 use Rattle.script_reader.specs.Generated.{generated_row}
 use Rattle.race.specs.Turns.{turn, turns}
-use Rattle.race.specs.HighHalf.{HandAt, IsNext}
+use Rattle.race.specs.HighRacers.{HandAt, IsNext}
 use Rattle.race.proofs.HighLooks.{leaves, removes_hand, attaches_nobody, time_is, turns_length, turns_more, turn_is_short, sent_below_next}
-use Rattle.race.proofs.high.HighHalf.give_back.Goals as goal
+use Rattle.race.proofs.high.HighRacer.give_back.Goals as goal
 
 pub returns-clause-at : goal.returns-clause-at
 returns-clause-at g c =
@@ -30,7 +30,7 @@ returns-clause-at g c =
     let n = a.past.removed in
     let time = c.from.result in
     let m = w.moment + time in
-    let shape = g.H.HighSide.shape w.ends in
+    let shape = g.H.HighSide.shape w.half.ends in
     let one = g.H.HighSide.on_one_thread in
     let after = StandsFitting (g.H.HighSide.stands new.ends) new.self in
     let frame : Frame = record w.answer { number = c.removed-number.result } in
@@ -38,14 +38,14 @@ returns-clause-at g c =
     let x = full.1.0 in
     let next : IsNext a.before n a.past.sends a.high.taken w.moment x =
     subst (λ (o : Option Item). HandAt a.before n a.past.sends a.high.taken w.moment o) full.1.1 a.hand in
-    let hand : hand_of w.process ≡ Some x = a.is_past.holds.hand ∙ full.1.1 in
-    let number : frame.number ≡ removed_of w.process = c.removed-number.ensures in
-    let task : task_at w.process (Some frame) ≡ Remove = removes_hand w.process frame x a.row a.answer.1 a.answer.0 number hand in
-    let nobody : attaches_at w.process (Some frame) ≡ false = attaches_nobody w.process frame a.answer.0 in
-    let fares : Fares plain_meaning Remove w.process new.self w.store new.store (Ok look) =
-    subst (λ (z : Task). Fares plain_meaning z w.process new.self w.store new.store (Ok look)) task c.in-Ok.ensures.fares in
-    let looked : Looked shape one after new_low a.high w.process new.self a.past m Remove false look =
-    subst (λ (z : Task × Bool). Looked shape one after new_low a.high w.process new.self a.past m z.0 z.1 look) (λ i. (task i, nobody i)) (c.in-Ok.ensures.looks new_low a.high a.past a.fitting a.is_past) in
+    let hand : hand_of w.half.process ≡ Some x = a.is_past.holds.hand ∙ full.1.1 in
+    let number : frame.number ≡ removed_of w.half.process = c.removed-number.ensures in
+    let task : task_at w.half.process (Some frame) ≡ Remove = removes_hand w.half.process frame x a.row a.answer.1 a.answer.0 number hand in
+    let nobody : attaches_at w.half.process (Some frame) ≡ false = attaches_nobody w.half.process frame a.answer.0 in
+    let fares : Fares plain_meaning Remove w.half.process new.self w.half.store new.store (Ok look) =
+    subst (λ (z : Task). Fares plain_meaning z w.half.process new.self w.half.store new.store (Ok look)) task c.in-Ok.ensures.fares in
+    let looked : Looked shape one after new_low a.high w.half.process new.self a.past m Remove false look =
+    subst (λ (z : Task × Bool). Looked shape one after new_low a.high w.half.process new.self a.past m z.0 z.1 look) (λ i. (task i, nobody i)) (c.in-Ok.ensures.looks new_low a.high a.past a.fitting a.is_past) in
     let turn_is : time ≡ turn w.times.items n = search rules in
     let short : time ≤ 10 ^ 9 = omega (arith, turn_is, turn_is_short w.times.items w.count n a.turn) in
     let so_many : length a.past.times ≡ n = ap length (a.past_times ∙ a.times_are) ∙ turns_length w.times.items n in
@@ -53,11 +53,11 @@ returns-clause-at g c =
     time_is a.past w.moment m time next.older refl short (omega (arith, so_many, a.few, a.turn.few)) next.sends_are next.older_below in
     let past : ProcessPast = begun Remove a.past m in
     let high : High = publishes a.high time in
-    let resend : (row_of w.process).resend ≡ 500000 = ap (λ (r : SessionRow). r.resend) a.row in
+    let resend : (row_of w.half.process).resend ≡ 500000 = ap (λ (r : SessionRow). r.resend) a.row in
     let ends : TakesUp shape one after new_low high (wants past) past.removed looked.got =
     subst (λ (o : Option ℕ). TakesUp shape one after new_low (told_time o a.high) (wants past) past.removed looked.got) published looked.ends in
-    let past_after : ProcessPast = finished (row_of w.process).resend false (taken_up past looked.got) m in
-    let left = leaves shape one after (row_of w.process).resend past high a.high.taken m looked.got (omega (arith, resend)) (omega (arith, a.few, a.turn.few))
+    let past_after : ProcessPast = finished (row_of w.half.process).resend false (taken_up past looked.got) m in
+    let left = leaves shape one after (row_of w.half.process).resend past high a.high.taken m looked.got (omega (arith, resend)) (omega (arith, a.few, a.turn.few))
     (refl, sent_below_next n w.moment a.past.sends next.older next.sends_are next.older_below) ends in
     let one_more : a.high.times ++ time ∷ [] ≡ turns w.times.items (n + 1) =
     ap (λ (z : List ℕ × ℕ). z.0 ++ z.1 ∷ []) (λ i. (a.times_are i, turn_is i)) ∙ turns_more w.times.items n in

@@ -10,7 +10,7 @@ use Rattle.high_process.specs.States.{row_of}
 use Rattle.script_reader.specs.Generated.{generated_row}
 use Rattle.race.specs.Turns.{turns}
 use Rattle.race.proofs.HighLooks.{leaves}
-use Rattle.race.proofs.high.HighHalf.look.Goals as goal
+use Rattle.race.proofs.high.HighRacer.look.Goals as goal
 
 pub returns-clause-at : goal.returns-clause-at
 returns-clause-at g c =
@@ -18,10 +18,10 @@ returns-clause-at g c =
     let w = c.args.self.now in
     let looked = c.in-Ok.ensures.looks new_low a.high a.past a.fitting a.is_past in
     let after = StandsFitting (g.H.HighSide.stands c.look_waiting.new.ends) c.look_waiting.new.self in
-    let resend : (row_of w.process).resend ≡ 500000 = ap (λ (r : SessionRow). r.resend) a.row in
-    let left = leaves (g.H.HighSide.shape w.ends) g.H.HighSide.on_one_thread after (row_of w.process).resend a.past a.high a.before w.moment
+    let resend : (row_of w.half.process).resend ≡ 500000 = ap (λ (r : SessionRow). r.resend) a.row in
+    let left = leaves (g.H.HighSide.shape w.half.ends) g.H.HighSide.on_one_thread after (row_of w.half.process).resend a.past a.high a.before w.moment
     looked.got (omega (arith, resend)) (omega (arith, a.few, a.turn.few)) a.hand looked.ends in
-    let same : c.look_waiting.new.store ≡ w.store = c.in-Ok.ensures.fares.1 in
+    let same : c.look_waiting.new.store ≡ w.half.store = c.in-Ok.ensures.fares.1 in
     record {
       turn = a.turn;
       answer = a.answer;

@@ -22,7 +22,7 @@ use Rattle.race.specs.Turns.{turns, AsksHigh, asks_of, asks_in_run}
 use Rattle.race.proofs.Finish.{looks_are, all_acked, printed_by_both, received_by_both, low_count_is, high_count_is, recv_count_is}
 use Rattle.race.proofs.Unstarted.{onerr_always}
 use Rattle.race.proofs.Tapes.{keeps_none, either}
-use Rattle.race.proofs.racing.race_halves.Goals as goal
+use Rattle.race.proofs.racing.race_sides.Goals as goal
 
 -- what the ends of the ring mean where they are given as ends that may wait
 abbrev LowEndStands : Calm RingLow → Low → High → Type 0
@@ -50,15 +50,15 @@ returns g c = record {
   «record» =
       λ low_on high_on.
       let r = c.in_ok-raced.ensures in
-      let low = c.run_halves.new.low in
-      let high = c.run_halves.new.high in
+      let low = c.run_sides.new.low in
+      let high = c.run_sides.new.high in
       let made = r.low.0 in
       let a = r.low.1 in
       let done = r.low_ends.done low_on in
       let (b, all) = r.high_ends.done high_on in
       let same : low.count ≡ high.count = r.low_stays.count ∙ c.requires.count ∙ sym r.high_stays.count in
       let stands = b.fitting.0 in
-      let fits = fits_left low.ends c.into_end-low_end.result.0 high.ends c.into_end-high_end.result.0 c.into_end-low_end.ensures.end c.into_end-high_end.ensures.end (r.high_stays.shape_is ∙ c.requires.shape) c.rejoin.ensures.lawful
+      let fits = fits_left low.half.ends c.into_disk-low_disk.result.1 high.half.ends c.into_disks-high_disk.result.1 c.into_disk-low_disk.ensures.end c.into_disks-high_disk.ensures.end (r.high_stays.shape_is ∙ c.requires.shape) c.rejoin.ensures.lawful
       a.low b.high a.fitting.0 (record { is = stands.is; taken = stands.taken; floor = stands.floor; times = stands.times; taken_before = stands.taken_before; tries = stands.tries }) in
       let times_are : c.as_slice.result.now ≡ high.times.items = c.as_slice.ensures.value in
       let none : c.in_ok-raced.raced.low_stopped || c.in_ok-raced.raced.high_stopped ≡ false = ap (λ (z : Bool × Bool). z.0 || z.1) (λ i. (low_on i, high_on i)) in
@@ -75,7 +75,7 @@ returns g c = record {
         asks_of (acks_of made),
         c.close-write_failed.ensures.ended none (O.written c.args.out.now) (O.faults c.args.out.now) text looked,
         r.low.2,
-        subst (λ (stopped : Bool). Grows (g.G.Gate.asked c.args.low_gate.now) (g.G.Gate.asked c.run_halves.new.low_gate) (asks_in_run stopped (acks_of made))) low_on r.low.4,
+        subst (λ (stopped : Bool). Grows (g.G.Gate.asked c.args.low_gate.now) (g.G.Gate.asked c.run_sides.new.low_gate) (asks_in_run stopped (acks_of made))) low_on r.low.4,
         record {
           made = made;
           looks = subst (λ (seed : ℕ). AreRaceLooks seed made) r.low_stays.seed (looks_are LowEndStands low_shape low made a);
@@ -92,7 +92,7 @@ returns g c = record {
   cut_short =
       λ stopped.
       let r = c.in_ok-raced.ensures in
-      let low = c.run_halves.new.low in
+      let low = c.run_sides.new.low in
       let made = r.low.0 in
       let a = r.low.1 in
       let O = g.O.Sink in
@@ -119,15 +119,15 @@ returns g c = record {
   disks =
       λ low_on high_on.
       let r = c.in_ok-raced.ensures in
-      let low = c.run_halves.new.low in
-      let high = c.run_halves.new.high in
+      let low = c.run_sides.new.low in
+      let high = c.run_sides.new.high in
       let made = r.low.0 in
       let a = r.low.1 in
       let done = r.low_ends.done low_on in
       let (b, all) = r.high_ends.done high_on in
       let same : low.count ≡ high.count = r.low_stays.count ∙ c.requires.count ∙ sym r.high_stays.count in
       let stands = b.fitting.0 in
-      let fits = fits_left low.ends c.into_end-low_end.result.0 high.ends c.into_end-high_end.result.0 c.into_end-low_end.ensures.end c.into_end-high_end.ensures.end (r.high_stays.shape_is ∙ c.requires.shape) c.rejoin.ensures.lawful
+      let fits = fits_left low.half.ends c.into_disk-low_disk.result.1 high.half.ends c.into_disks-high_disk.result.1 c.into_disk-low_disk.ensures.end c.into_disks-high_disk.ensures.end (r.high_stays.shape_is ∙ c.requires.shape) c.rejoin.ensures.lawful
       a.low b.high a.fitting.0 (record { is = stands.is; taken = stands.taken; floor = stands.floor; times = stands.times; taken_before = stands.taken_before; tries = stands.tries }) in
       let next_is = low_count_is LowEndStands low_shape low made a HighEndStands high b done all same fits.agrees ∙ r.high_stays.count in
       let removed_is = high_count_is LowEndStands low_shape low made a HighEndStands high b done all same fits.agrees ∙ r.high_stays.count in
@@ -135,16 +135,16 @@ returns g c = record {
       received_by_both LowEndStands low_shape low made a HighEndStands high b done all same fits.agrees ∙ ap (λ (z : ℕ × ℕ). payloads z.0 z.1) (λ i. (r.low_stays.seed i, r.high_stays.count i)) in
       let store = a.store a.up in
       record {
-        low_stands = subst (λ (z : SessionRow × ℕ × Plain). StandsForCount z.0 z.1 z.2.bytes) (λ i. ((store.row ∙ a.row) i, (store.count ∙ next_is) i, sym c.into_end-low_end.ensures.disk i)) (store.ready.stands tt);
-        high_stands = subst (λ (z : ℕ × Plain). HighDiskStands generated_row z.0 z.1.bytes) (λ i. (removed_is i, sym c.into_end-high_end.ensures.disk i)) b.disk;
-        recv_stands = subst (λ (z : List (List ℕ) × Plain). RecvStands generated_row z.0 z.1.bytes) (λ i. (messages i, sym c.into_end-high_end.ensures.recv i)) b.recv.stands;
+        low_stands = subst (λ (z : SessionRow × ℕ × Plain). StandsForCount z.0 z.1 z.2.bytes) (λ i. ((store.row ∙ a.row) i, (store.count ∙ next_is) i, sym c.into_disk-low_disk.ensures.disk i)) (store.ready.stands tt);
+        high_stands = subst (λ (z : ℕ × Plain). HighDiskStands generated_row z.0 z.1.bytes) (λ i. (removed_is i, sym c.into_disks-high_disk.ensures.disk i)) b.disk;
+        recv_stands = subst (λ (z : List (List ℕ) × Plain). RecvStands generated_row z.0 z.1.bytes) (λ i. (messages i, sym c.into_disks-high_disk.ensures.recv i)) b.recv.stands;
       };
   low_stopped = c.in_ok-raced.ensures.low_ends.stops;
   high_stopped = c.in_ok-raced.ensures.high_ends.stops;
   asked_high =
       let r = c.in_ok-raced.ensures in
       let H = g.H.Gate in
-      subst (λ (z : ℕ × Plain). AsksHigh z.0 c.in_ok-raced.raced.high_stopped (H.asked c.args.high_gate.now) (H.asked c.run_halves.new.high_gate) z.1.bytes) (λ i. (r.high_stays.count i, sym c.into_end-high_end.ensures.recv i)) r.high_asks;
+      subst (λ (z : ℕ × Plain). AsksHigh z.0 c.in_ok-raced.raced.high_stopped (H.asked c.args.high_gate.now) (H.asked c.run_sides.new.high_gate) z.1.bytes) (λ i. (r.high_stays.count i, sym c.into_disks-high_disk.ensures.recv i)) r.high_asks;
   nothing = tt;
 }
 

@@ -2,17 +2,17 @@ use Rattle.std.proofs.Common.{ℕ, ◌∙◌, Bool, true, false, refl, ap, subst
 use Rattle.pump_frame.specs.Counts.{raised, Rose}
 use Rattle.pump_link.proofs.Grown.{Grows-nil}
 use Rattle.high_process.specs.States.{removed_of}
-use Rattle.race.specs.HighHalf.{HighAt}
+use Rattle.race.specs.HighRacers.{HighAt}
 use Rattle.race.proofs.HighAsks.{all_removed, none_taken, more_taken, given_back, asks_more, asks_of_all, asks_of_stopped}
-use Rattle.race.proofs.KeptHalves.{stays_on}
+use Rattle.race.proofs.KeptRacers.{stays_on}
 use Rattle.race.proofs.Stops.{none_counted}
-use Rattle.race.proofs.high_work.HighWorkWork.run.Goals as goal
+use Rattle.race.proofs.high_work.HighRaceWorkWork.run.Goals as goal
 
 pub loop-init : goal.loop-init
 loop-init g c = (
   [],
   record {
-    keeps = record { half = refl; gate = refl; stays = record { place_is = refl; shape_is = refl; count = refl; times = refl } };
+    keeps = record { racer = refl; gate = refl; stays = record { place_is = refl; shape_is = refl; count = refl; times = refl } };
     at = c.requires.0.at;
     going = c.requires.1;
     taken = none_taken g.H.HighSide.stands _ c.requires.0.at c.requires.0.none_removed;
@@ -27,13 +27,13 @@ loop-preserved-then-has_taken g c =
     let i = c.loop.invariant in
     let s = i.1 in
     let stands = g.H.HighSide.stands in
-    let was = c.loop.self.half.now in
+    let was = c.loop.self.racer.now in
     let e = c.give_back.ensures in
     let at : HighAt stands true was = subst (λ (b : Bool). HighAt stands b was) c.if-has_taken.true s.at in (
       false ∷ i.0,
       record {
         keeps = record {
-          half = s.keeps.half;
+          racer = s.keeps.racer;
           gate = s.keeps.gate;
           stays = stays_on g.H.HighSide.place g.H.HighSide.shape _ was _ s.keeps.stays e.stays;
         };
@@ -51,7 +51,7 @@ loop-preserved-then-not-has_taken g c =
     let i = c.loop.invariant in
     let s = i.1 in
     let stands = g.H.HighSide.stands in
-    let was = c.loop.self.half.now in
+    let was = c.loop.self.racer.now in
     let e = c.look.ensures in
     let f = c.receive-has_taken.ensures in
     let took = c.receive-has_taken.result in
@@ -60,7 +60,7 @@ loop-preserved-then-not-has_taken g c =
       took ∷ i.0,
       record {
         keeps = record {
-          half = s.keeps.half;
+          racer = s.keeps.racer;
           gate = s.keeps.gate;
           stays = stays_on g.H.HighSide.place g.H.HighSide.shape _ was _ s.keeps.stays
               (record { place_is = ap g.H.HighSide.place f.ends ∙ e.stays.place_is; shape_is = ap g.H.HighSide.shape f.ends ∙ e.stays.shape_is; count = f.count ∙ e.stays.count; times = f.times ∙ e.stays.times });
@@ -79,7 +79,7 @@ loop-preserved g c =
     let i = c.loop.invariant in
     let s = i.1 in
     let stands = g.H.HighSide.stands in
-    let was = c.loop.self.half.now in
+    let was = c.loop.self.racer.now in
     let e = c.look.ensures in
     let f = c.receive-has_taken.ensures in
     let took = c.receive-has_taken.result in
@@ -88,7 +88,7 @@ loop-preserved g c =
       took ∷ i.0,
       record {
         keeps = record {
-          half = s.keeps.half;
+          racer = s.keeps.racer;
           gate = s.keeps.gate;
           stays = stays_on g.H.HighSide.place g.H.HighSide.shape _ was _ s.keeps.stays
               (record { place_is = ap g.H.HighSide.place f.ends ∙ e.stays.place_is; shape_is = ap g.H.HighSide.shape f.ends ∙ e.stays.shape_is; count = f.count ∙ e.stays.count; times = f.times ∙ e.stays.times });
@@ -107,7 +107,7 @@ returns-then-is_done g c =
     let i = c.loop.invariant in
     let s = i.1 in
     let stands = g.H.HighSide.stands in
-    let w = c.loop.self.half.now in
+    let w = c.loop.self.racer.now in
     let all = c.is_done.ensures.yes c.if-is_done.true in
     record {
       keeps = s.keeps;
@@ -124,10 +124,10 @@ returns-then-not-pass g c =
     let i = c.loop.invariant in
     let s = i.1 in
     let stands = g.H.HighSide.stands in
-    let w = c.loop.self.half.now in
+    let w = c.loop.self.racer.now in
     record {
       keeps = record {
-        half = s.keeps.half;
+        racer = s.keeps.racer;
         gate = s.keeps.gate;
         stays = s.keeps.stays;
       };

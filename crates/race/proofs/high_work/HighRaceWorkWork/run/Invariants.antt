@@ -1,7 +1,7 @@
 use Rattle.std.proofs.Common.{◌≡◌, Bool, List}
 use Rattle.race.specs.HighWorks.{HighSoFar}
 use Rattle.race.specs.Turns.{looks_in}
-use Rattle.race.proofs.high_work.HighWorkWork.run.Given as goal
+use Rattle.race.proofs.high_work.HighRaceWorkWork.run.Given as goal
 
 abbrev pub invariant-loop : goal.invariant-loop
 invariant-loop g l = (turns_made : List Bool)

@@ -3,7 +3,7 @@ use Rattle.relay_threads.specs.Records.{Made, was_full}
 use Rattle.race.specs.LowWorks.{LowSoFar}
 use Rattle.race.specs.MadeLooks.{acks_of}
 use Rattle.race.specs.Turns.{looks_in, asks_of}
-use Rattle.race.proofs.low_work.LowWorkWork.run.Given as goal
+use Rattle.race.proofs.low_work.LowRaceWorkWork.run.Given as goal
 
 abbrev pub invariant-loop : goal.invariant-loop
 invariant-loop g l = (made : List Made)

@@ -10,11 +10,11 @@ use Rattle.low_process.specs.Looks.{hand_of, hand_after, look_of, IsLawful as Ca
 use Rattle.low_process.specs.Whole.{LookStep}
 use Rattle.disk_model.specs.Plain.{plain_meaning}
 use Rattle.relay_threads.specs.RecordLines.{tells_fault}
-use Rattle.race.specs.LowHalf.{offered, arrival_in, LowRests}
-use Rattle.race.specs.declared.low.LowHalf.{LowHalf}
+use Rattle.race.specs.LowRacers.{offered, arrival_in, LowRests}
+use Rattle.race.specs.declared.low.LowRacer.{LowRacer}
 use Rattle.race.proofs.LowGoes.{carried, Leaves}
 use Rattle.race.proofs.Frames.{can_come}
-use Rattle.race.proofs.low.LowHalf.look_with.Goals as goal
+use Rattle.race.proofs.low.LowRacer.look_with.Goals as goal
 
 -- a frame comes where one is offered
 comes_in : (comes : Bool) (f : Frame) → comes ≡ is_some (offered comes f)
@@ -31,17 +31,19 @@ returns-clause-at g c = λ made left a offer.
     let e = c.look_waiting_into.ensures in
     let l : LowLook = look_whole generated_row c.look_waiting_into.new.head in
     let word = c.next_word-word.result in
-    let w' : LowHalf g.row.L.Denot = record w {
-      ends = c.look_waiting_into.new.ends;
-      process = c.look_waiting_into.new.self;
-      store = c.look_waiting_into.new.store;
+    let w' : LowRacer g.row.L.Denot = record w {
+      half = record {
+        process = c.look_waiting_into.new.self;
+        store = c.look_waiting_into.new.store;
+        ends = c.look_waiting_into.new.ends;
+      };
       word = word;
       is_greeted = w.is_greeted || c.args.comes;
     } in
     let came = c.arrival_of_frame-arrival.ensures in
-    let step : LookStep plain_meaning w.process w'.process w.store w'.store c.args.moment word (arrival_in frame) e.looks.0 l =
-    subst (λ (z : Arrival × SessionRow). LookStep plain_meaning w.process w'.process w.store w'.store c.args.moment word z.0 e.looks.0 (look_whole z.1 c.look_waiting_into.new.head)) (λ i. (came i, a.row i)) e.looks.1 in
-    let hand = e.hand ∙ ap (λ (z : Arrival). hand_after (hand_of w.process) z l) came in
+    let step : LookStep plain_meaning w.half.process w'.half.process w.half.store w'.half.store c.args.moment word (arrival_in frame) e.looks.0 l =
+    subst (λ (z : Arrival × SessionRow). LookStep plain_meaning w.half.process w'.half.process w.half.store w'.half.store c.args.moment word z.0 e.looks.0 (look_whole z.1 c.look_waiting_into.new.head)) (λ i. (came i, a.row i)) e.looks.1 in
+    let hand = e.hand ∙ ap (λ (z : Arrival). hand_after (hand_of w.half.process) z l) came in
     let leaves : Leaves w w' word frame = record {
       row = refl;
       seed = refl;

@@ -1,4 +1,4 @@
--- The high half of a race between two looks.
+-- The high racer between two looks.
 use Rattle.std.specs.Prelude.{◌≡◌, ℕ, ◌+◌, ◌*◌, ◌^◌, ◌<◌, ◌≤◌, Bool, true, false, nat_le, if◌then◌else◌, List, [], ◌∷◌}
 use Rattle.std.specs.Prelude.{◌++◌, length, map, Option, Some, None}
 use Rattle.std.specs.List.{All}
@@ -20,7 +20,7 @@ use Rattle.high_receiver.specs.Receiving.{IsRecvReady, recv_disk, recv_count, re
 use Rattle.high_receiver.specs.declared.receiver.Receiver.{Receiver}
 use Rattle.script_reader.specs.Generated.{generated_row}
 use Rattle.race.specs.Turns.{turns, CanTurn, payload_in}
-use Rattle.race.specs.declared.high.HighHalf.{HighHalf}
+use Rattle.race.specs.declared.high.HighRacer.{HighRacer}
 
 -- the receiver is given the message in the hand, unless it is longer than the row's messages
 abbrev pub comes_to_receiver : Option Item → Bool
@@ -67,28 +67,28 @@ HandAt before removed sends taken moment (Some x) = IsNext before removed sends 
 abbrev pub IsAnswer : Frame → Type 0
 IsAnswer f = (f.kind ≡ Taken) × (f.session ≡ generated_row.id)
 
--- The high half between two looks. The receiver has the messages that are removed and, where `has_taken`
+-- The high racer between two looks. The receiver has the messages that are removed and, where `has_taken`
 -- holds, the one in the hand.
-pub record HighAt {H : Type 0} (stands : H → Low → High → Type 0) (has_taken : Bool) (w : HighHalf H) : Type 0 where
+pub record HighAt {H : Type 0} (stands : H → Low → High → Type 0) (has_taken : Bool) (w : HighRacer H) : Type 0 where
   pub turn : CanTurn w.times.items w.count
   pub answer : IsAnswer w.answer
   -- what its end did, beside a low end that did nothing; the process and its past
   pub high : High
   pub past : ProcessPast
-  pub fitting : StandsFitting (stands w.ends) w.process new_low high
-  pub is_past : StandsFor w.process past
-  pub up : is_down w.process ≡ false
-  pub row : row_of w.process ≡ generated_row
+  pub fitting : StandsFitting (stands w.half.ends) w.half.process new_low high
+  pub is_past : StandsFor w.half.process past
+  pub up : is_down w.half.process ≡ false
+  pub row : row_of w.half.process ≡ generated_row
   -- its moment
   pub order : past.moment ≤ w.moment
   pub bound : w.moment ≤ past.removed * 10 ^ 9
   -- its store, whose disk is in memory and cannot fail
   pub few : past.removed ≤ w.count
-  pub ready : IsHighReady plain_meaning w.store
-  pub count : high_count w.store ≡ past.removed
-  pub disk : HighStands generated_row past.removed (high_disk w.store).bytes
-  pub calm : (high_disk w.store).armed ≡ false
-  pub room : 80 ≤ (high_disk w.store).room
+  pub ready : IsHighReady plain_meaning w.half.store
+  pub count : high_count w.half.store ≡ past.removed
+  pub disk : HighStands generated_row past.removed (high_disk w.half.store).bytes
+  pub calm : (high_disk w.half.store).armed ≡ false
+  pub room : 80 ≤ (high_disk w.half.store).room
   -- the messages that are removed, and the hand
   pub before : List Item
   pub removed_are : length before ≡ past.removed
@@ -103,14 +103,14 @@ pub record HighAt {H : Type 0} (stands : H → Low → High → Type 0) (has_tak
   pub hand_taken : has_taken ≡ true → (past.removed < w.count) × ((x : Item) × (past.hand ≡ Some x))
 
 -- before its first look: no message is removed
-pub record HighBegins {H : Type 0} (stands : H → Low → High → Type 0) (w : HighHalf H) : Type 0 where
+pub record HighBegins {H : Type 0} (stands : H → Low → High → Type 0) (w : HighRacer H) : Type 0 where
   pub at : HighAt stands false w
-  pub none_removed : removed_of w.process ≡ 0
+  pub none_removed : removed_of w.half.process ≡ 0
 
 -- what looks leave as it is: whose end it has, how many messages there are, and the times that they need
-pub record HighStays {H : Type 0} (place : H → List TableId) (shape : H → Shape) (before after : HighHalf H) : Type 0
+pub record HighStays {H : Type 0} (place : H → List TableId) (shape : H → Shape) (before after : HighRacer H) : Type 0
   where
-    pub place_is : place after.ends ≡ place before.ends
-    pub shape_is : shape after.ends ≡ shape before.ends
+    pub place_is : place after.half.ends ≡ place before.half.ends
+    pub shape_is : shape after.half.ends ≡ shape before.half.ends
     pub count : after.count ≡ before.count
     pub times : after.times ≡ before.times

@@ -1,5 +1,4 @@
--- The low half of a race between two looks: the low process with its store and its end, and what is
--- left of the generated script.
+-- The low racer between two looks: the low half of its session, and what is left of the generated script.
 use Rattle.std.specs.Prelude.{◌≡◌, ◌⊎◌, ℕ, ◌+◌, ◌≤◌, Bool, true, false, if◌then◌else◌, List, [], ◌∷◌, ◌++◌, length, map}
 use Rattle.std.specs.Prelude.{Option, Some, None}
 use Rattle.std.specs.List.{AllByRecursion}
@@ -27,7 +26,7 @@ use Rattle.race.specs.LookWords.{word_after}
 use Rattle.race.specs.MadeLooks.{HaveWords, TakeAll, IsPlain, FullFrom, frames_of, acks_of}
 use Rattle.race.specs.Messages.{messages_in, race_items, race_opening, hello_frame, data_frame}
 use Rattle.race.specs.Turns.{done_in}
-use Rattle.race.specs.declared.low.LowHalf.{LowHalf}
+use Rattle.race.specs.declared.low.LowRacer.{LowRacer}
 
 -- the phases of a low process whose device never fails and whose connection is never lost
 abbrev pub goes_on : Phase → Bool
@@ -55,20 +54,20 @@ frames_so_far greeted items = if greeted then hello_frame ∷ map data_frame ite
 
 -- After these looks, with these messages still to come. What was forwarded, with the hand, and what is
 -- still to come are the messages of the race.
-pub record LowAt {L : Type 0} (stands : L → Low → High → Type 0) (shape : L → Shape) (w : LowHalf L) (left : List Item)
+pub record LowAt {L : Type 0} (stands : L → Low → High → Type 0) (shape : L → Shape) (w : LowRacer L) (left : List Item)
     (made : List Made) : Type 0 where
   pub are_made : AreMade generated_row race_opening made
-  pub history : StandsFor w.process (history_made race_opening made)
+  pub history : StandsFor w.half.process (history_made race_opening made)
   pub replies : LowReplies generated_row (history_made race_opening made) (replies_made made)
   pub parts : List Part
   pub cut : IsCut generated_row (life_made race_opening made) parts
   pub phase : goes_on (phase_after generated_row race_opening parts) ≡ true
   pub greeted : greeted_after generated_row parts ≡ w.is_greeted
-  pub row : row_of w.process ≡ generated_row
+  pub row : row_of w.half.process ≡ generated_row
   pub row_too : w.row ≡ generated_row
-  pub up : is_down w.process ≡ false
-  pub store : HasStore plain_meaning w.process w.store
-  pub free : ((low_disk w.store).armed ≡ false) × (low_size generated_row ≤ (low_disk w.store).room)
+  pub up : is_down w.half.process ≡ false
+  pub store : HasStore plain_meaning w.half.process w.half.store
+  pub free : ((low_disk w.half.store).armed ≡ false) × (low_size generated_row ≤ (low_disk w.half.store).room)
   pub some : 1 ≤ w.count
   pub few : w.count ≤ 100000
   pub word : w.word ≡ word_after w.seed (length made)
@@ -77,37 +76,37 @@ pub record LowAt {L : Type 0} (stands : L → Low → High → Type 0) (shape : 
   pub plain : AllByRecursion IsPlain made
   pub full : FullFrom 6 generated_row race_opening made
   pub low : Low
-  pub fitting : StandsFitting (stands w.ends) w.process low new_high
-  pub shape_is : shape w.ends ≡ shape_of_row generated_row
+  pub fitting : StandsFitting (stands w.half.ends) w.half.process low new_high
+  pub shape_is : shape w.half.ends ≡ shape_of_row generated_row
   pub pairs : low.pairs ≡ pairs_of made
-  pub messages : with_hand low.forwarded (hand_of w.process) ++ left ≡ race_items w.seed w.count
-  pub stored : length (with_hand low.forwarded (hand_of w.process)) ≡ next_of w.process
-  pub frames : frames_of made ≡ frames_so_far w.is_greeted (with_hand low.forwarded (hand_of w.process))
-  pub none_before : w.is_greeted ≡ false → next_of w.process ≡ 0
-  pub acked : done_in (acks_of made) + owed_in (phase_after generated_row race_opening parts) ≡ next_of w.process
+  pub messages : with_hand low.forwarded (hand_of w.half.process) ++ left ≡ race_items w.seed w.count
+  pub stored : length (with_hand low.forwarded (hand_of w.half.process)) ≡ next_of w.half.process
+  pub frames : frames_of made ≡ frames_so_far w.is_greeted (with_hand low.forwarded (hand_of w.half.process))
+  pub none_before : w.is_greeted ≡ false → next_of w.half.process ≡ 0
+  pub acked : done_in (acks_of made) + owed_in (phase_after generated_row race_opening parts) ≡ next_of w.half.process
 
 -- with all messages still to come that the script has left
-abbrev pub LowRests : {L : Type 0} → (L → Low → High → Type 0) → (L → Shape) → LowHalf L → List Made → Type 0
+abbrev pub LowRests : {L : Type 0} → (L → Low → High → Type 0) → (L → Shape) → LowRacer L → List Made → Type 0
 LowRests stands shape w made = LowAt stands shape w (messages_in w.script) made
 
 -- before its first look, at moment 0
-pub record LowBegins {L : Type 0} (stands : L → Low → High → Type 0) (shape : L → Shape) (w : LowHalf L) : Type 0 where
+pub record LowBegins {L : Type 0} (stands : L → Low → High → Type 0) (shape : L → Shape) (w : LowRacer L) : Type 0 where
   pub at : LowRests stands shape w []
-  pub last : last_of w.process ≡ 0
+  pub last : last_of w.half.process ≡ 0
 
 -- what looks leave as it is: whose end it has, and which messages it is to send
 pub record LowStays {L : Type 0} (place : L → List TableId) (shape : L → Shape)
-    (before after : LowHalf L) : Type 0 where
-  pub place_is : place after.ends ≡ place before.ends
-  pub shape_is : shape after.ends ≡ shape before.ends
+    (before after : LowRacer L) : Type 0 where
+  pub place_is : place after.half.ends ≡ place before.half.ends
+  pub shape_is : shape after.half.ends ≡ shape before.half.ends
   pub seed : after.seed ≡ before.seed
   pub count : after.count ≡ before.count
 
 -- A frame that comes is the HELLO, or the DATA of the first message still to come, and comes only
 -- where it is taken.
-abbrev pub IsOffer : {L : Type 0} → LowHalf L → Option Frame → List Item → Type 0
+abbrev pub IsOffer : {L : Type 0} → LowRacer L → Option Frame → List Item → Type 0
 IsOffer w None left = left ≡ messages_in w.script
-IsOffer w (Some f) left = (is_idle w.process ≡ true)
+IsOffer w (Some f) left = (is_idle w.half.process ≡ true)
     × (((w.is_greeted ≡ false) × (f ≡ hello_frame) × (left ≡ messages_in w.script))
     ⊎ ((w.is_greeted ≡ true) × ((x : Item) × (f ≡ data_frame x) × (left ≡ x ∷ messages_in w.script))))
 

@@ -1,8 +1,8 @@
 use Rattle.std.proofs.Common.{rules, ◌≡◌, ◌<◌, ◌≤◌, sym, ap, ◌∙◌, subst, arith, ◌∷◌, [], ◌++◌, length, Option, Some}
 use Rattle.pump_frame.specs.declared.frame.Item.{Item}
-use Rattle.race.specs.HighHalf.{HandAt, IsNext}
+use Rattle.race.specs.HighRacers.{HandAt, IsNext}
 use Rattle.race.proofs.Receiving.{stores_next, has_one_more, payloads_given, map_length}
-use Rattle.race.proofs.high.HighHalf.receive.Goals as goal
+use Rattle.race.proofs.high.HighRacer.receive.Goals as goal
 
 pub returns-clause-at : goal.returns-clause-at
 returns-clause-at g c =

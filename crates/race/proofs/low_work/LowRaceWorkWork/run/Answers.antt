@@ -5,7 +5,7 @@ use Rattle.pump_link.proofs.Grown.{Grows-nil}
 use Rattle.relay_threads.specs.Records.{record_of}
 use Rattle.relay_threads.specs.RecordLines.{looks_text, made_by, HasLawfulFrame}
 use Rattle.script_reader.specs.Generated.{generated_row}
-use Rattle.race.specs.LowHalf.{offered}
+use Rattle.race.specs.LowRacers.{offered}
 use Rattle.race.specs.MadeLooks.{moments_of, is_ack, acks_of}
 use Rattle.race.specs.LowWorks.{LowSoFar}
 use Rattle.race.specs.Messages.{messages_in}
@@ -19,13 +19,13 @@ use Rattle.race.proofs.LowRuns.{draws_none, draws_then, looks_more}
 use Rattle.race.proofs.Replayable.{readable_more}
 use Rattle.race.proofs.Stops.{none_counted, goes_on, stops_here}
 use Rattle.race.proofs.Tapes.{prints_none, prints_then}
-use Rattle.race.proofs.low_work.LowWorkWork.run.Goals as goal
+use Rattle.race.proofs.low_work.LowRaceWorkWork.run.Goals as goal
 
 pub loop-init : goal.loop-init
 loop-init g c = (
   [],
   record {
-    keeps = record { half = refl; clock = refl; out = refl; tape = refl; gate = refl; stays = record { place_is = refl; shape_is = refl; seed = refl; count = refl } };
+    keeps = record { racer = refl; clock = refl; out = refl; tape = refl; gate = refl; stays = record { place_is = refl; shape_is = refl; seed = refl; count = refl } };
     at = c.requires.at;
     order = c.requires.order;
     row = c.requires.row;
@@ -64,12 +64,12 @@ loop-preserved g c =
     let K = g.K.Clock in
     let O = g.O.Sink in
     let looked = c.look_with-made.ensures.stays in
-    let done = acks_are g.L.LowSide.stands g.L.LowSide.shape c.loop.self.half.now (messages_in c.loop.self.half.now.script) made s.at c.acknowledged-acknowledged.result c.acknowledged-acknowledged.ensures.idle c.acknowledged-acknowledged.ensures.busy in
+    let done = acks_are g.L.LowSide.stands g.L.LowSide.shape c.loop.self.racer.now (messages_in c.loop.self.racer.now.script) made s.at c.acknowledged-acknowledged.result c.acknowledged-acknowledged.ensures.idle c.acknowledged-acknowledged.ensures.busy in
     let (left, at, offer) = c.next_frame-comes.ensures.offer made s.at in (
       m ∷ made,
       record {
         keeps = record {
-          half = s.keeps.half;
+          racer = s.keeps.racer;
           clock = s.keeps.clock;
           out = s.keeps.out;
           tape = s.keeps.tape;
@@ -105,13 +105,13 @@ returns-then-not-pass g c =
     let i = c.loop.invariant in
     let made = i.0 in
     let s = i.1 in
-    let half = c.loop.self.half.now in
+    let racer = c.loop.self.racer.now in
     let taken = c.acknowledged-acknowledged in
-    let done = acks_are g.L.LowSide.stands g.L.LowSide.shape half (messages_in half.script) made s.at taken.result taken.ensures.idle taken.ensures.busy in
+    let done = acks_are g.L.LowSide.stands g.L.LowSide.shape racer (messages_in racer.script) made s.at taken.result taken.ensures.idle taken.ensures.busy in
     record {
       made = made;
       so_far = record {
-        keeps = record { half = s.keeps.half; clock = s.keeps.clock; out = s.keeps.out; tape = s.keeps.tape; gate = s.keeps.gate; stays = s.keeps.stays };
+        keeps = record { racer = s.keeps.racer; clock = s.keeps.clock; out = s.keeps.out; tape = s.keeps.tape; gate = s.keeps.gate; stays = s.keeps.stays };
         at = s.at;
         order = s.order;
         row = s.row;

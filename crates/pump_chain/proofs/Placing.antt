@@ -26,30 +26,30 @@ use Rattle.two_worlds.proofs.Disks.OpensSurely.{one_received}
 use Rattle.two_worlds.proofs.Lines.Kept.{kept_able, able_stands, works_up}
 use Rattle.two_worlds.proofs.Opening.Ready.{recv_reading}
 use Rattle.two_worlds.proofs.Opening.Working.{works_of}
-use Rattle.pump_chain.specs.declared.place.Place.{Place}
+use Rattle.pump_chain.specs.declared.place.LogPlace.{LogPlace}
 use Rattle.pump_chain.specs.Keeping.{KnowsPlace, Keeps}
 use Rattle.pump_chain.proofs.Prefixes.{prefix_same, prefix_then}
 use Rattle.pump_chain.proofs.Moving.{Above, Below, Moves, line_moves, overfills_move}
 
 -- ---- lists ----
 
-pub same_place : (place : Place) (xs ys : List Payload) → xs ≡ ys → KnowsPlace place xs → KnowsPlace place ys
+pub same_place : (place : LogPlace) (xs ys : List Payload) → xs ≡ ys → KnowsPlace place xs → KnowsPlace place ys
 same_place place xs ys e k = record { few = (let few = k.few in let l = ap length e in omega (arith, few, l)); at = k.at ∙ ap (λ (l : List Payload). record_at l place.number) e }
 
-pub longer_place : (place : Place) (xs ys : List Payload) → IsPrefixOf xs ys → KnowsPlace place xs → KnowsPlace place ys
+pub longer_place : (place : LogPlace) (xs ys : List Payload) → IsPrefixOf xs ys → KnowsPlace place xs → KnowsPlace place ys
 longer_place place xs ys (more, e) k = same_place place (xs ++ more) ys e (record {
   few = (let few = k.few in let l = length-append xs more in omega (arith, few, l));
   at = k.at ∙ ap (λ (l : List Payload). 80 + sum_by (λ (message : Payload). 2 + length message) l) (sym (take-append-le place.number xs more k.few));
 })
 
 -- the first record begins at 80
-pub first_place : (place : Place) (xs : List Payload) → place.number ≡ 0 → place.at ≡ 80 → KnowsPlace place xs
+pub first_place : (place : LogPlace) (xs : List Payload) → place.number ≡ 0 → place.at ≡ 80 → KnowsPlace place xs
 first_place place xs number at = record {
   few = omega (arith, number);
   at = at ∙ sym (ap (record_at xs) number);
 }
 
-surely : (place : Place) (xs : List Payload) → ∥ KnowsPlace place xs ∥₁ → KnowsPlace place xs
+surely : (place : LogPlace) (xs : List Payload) → ∥ KnowsPlace place xs ∥₁ → KnowsPlace place xs
 surely place xs k = record { few = ∥∥₁_elim k le_prop (λ x. x.few); at = ∥∥₁_elim k (hlevel props) (λ x. x.at) }
 
 -- ---- one list ----
@@ -105,7 +105,7 @@ module _ {D : Type 0} {g : _} (s t : Pump D g) (line : ScriptLine) (printed : Li
       (prefix_same _ _ (state_received g.told t.state r q told stands is))
   grows (Some (Disk role why)) a = absurd a
 
-module _ {D : Type 0} {g : _} (s t : Pump D g) (up : is_down s ≡ false) (place : Place) where
+module _ {D : Type 0} {g : _} (s t : Pump D g) (up : is_down s ≡ false) (place : LogPlace) where
   -- so a place stays one of its log
   pub keeps_on : (line : ScriptLine) (printed : List Printed) (stop : Option Stop) → (g.told.tells → (p : Past) → StandsFor g.told s p → Applies g.told s t line p printed stop)
       → ∥ Keeps g.told s place ∥₁ → ∥ Keeps g.told t place ∥₁
@@ -120,17 +120,17 @@ module _ {D : Type 0} {g : _} (s t : Pump D g) (up : is_down s ≡ false) (place
       same_place place x.0.world.received q.world.received (state_received g.told t.state x.0 q told (stands x.0 x.1) is) (knows told x.0 x.1)))
 
 -- the place that is kept
-pub kept_place : {D : Type 0} {g : _} (s : Pump D g) (place : Place) → ∥ Keeps g.told s place ∥₁ → g.told.tells → (p : Past) → StandsFor g.told s p → KnowsPlace place p.world.received
+pub kept_place : {D : Type 0} {g : _} (s : Pump D g) (place : LogPlace) → ∥ Keeps g.told s place ∥₁ → g.told.tells → (p : Past) → StandsFor g.told s p → KnowsPlace place p.world.received
 kept_place s place k told p stands = surely place p.world.received (∥∥₁_map k (λ keeps. keeps told p stands))
 
-module _ {D : Type 0} {g : _} (s t : Pump D g) (up : is_down s ≡ false) (place : Place) where
+module _ {D : Type 0} {g : _} (s t : Pump D g) (up : is_down s ≡ false) (place : LogPlace) where
   -- a read leaves the place one of the log, or the pump is down
   pub keeps_either : {T E : Type 0} (result : Result T E) → OnOk result (ReadsOn g.told roles.Recv s t) → OnErr result (FailsReading g.told roles.Recv s t) → ∥ Keeps g.told s place ∥₁ → ∥ Keeps g.told t place ∥₁
   keeps_either (Ok value) reads fails k = ∣ keeps_still s t up place reads.stands (kept_place s place k) ∣₁
   keeps_either (Err e) reads fails k = ∣ (λ told q is. let up_now = stands_up g.told t.state q is in let down = fails.alone.down in absurd (cc)) ∣₁
 
   -- so the place behind it
-  pub keeps_next : (next : Place) → next.number ≡ place.number + 1 → place.number < (counts_of s).2 → ReadsOn g.told roles.Recv s t → (g.told.tells → (p : Past) → StandsFor g.told s p → next.at ≡ record_at p.world.received (place.number + 1)) → Keeps g.told t next
+  pub keeps_next : (next : LogPlace) → next.number ≡ place.number + 1 → place.number < (counts_of s).2 → ReadsOn g.told roles.Recv s t → (g.told.tells → (p : Past) → StandsFor g.told s p → next.at ≡ record_at p.world.received (place.number + 1)) → Keeps g.told t next
   keeps_next next number some reads at = keeps_still s t up next reads.stands (λ told p stands. record {
     few = (let have = state_count g.told s.state p stands in omega (arith, have, number, some));
     at = at told p stands ∙ ap (record_at p.world.received) (sym number);

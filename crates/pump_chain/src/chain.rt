@@ -6,7 +6,7 @@ mod lines;
 mod opening;
 mod reading;
 
-use crate::place::Place;
+use crate::place::LogPlace;
 use crate::sender::Sender;
 use crate::whose::{Whose, find_whose};
 use arrayvec::ArrayVec;
@@ -22,7 +22,7 @@ pub struct Chain<D: Disk> {
     second: Pump<D>,
     sender: Sender,
     /// Where the first receiver's log is read next.
-    place: Place,
+    place: LogPlace,
     /// A line came that is of one of the sessions and makes neither coarse.
     is_under_way: bool,
     // The place is that of a record of the first receiver's log, where its disk tells what it holds.

@@ -32,8 +32,8 @@ use Rattle.high_process.specs.Past.{ProcessPast}
 use Rattle.high_process.specs.declared.process.HighProcess.{HighProcess}
 use Rattle.script_reader.specs.Alone.{PastAlone}
 use Rattle.script_reader.specs.Past.{Past}
-use Rattle.two_worlds.specs.LowParts.{PartsStand}
-use Rattle.two_worlds.specs.declared.low_pump.parts.LowParts.{LowParts}
+use Rattle.two_worlds.specs.LowPumpParts.{PartsStand}
+use Rattle.two_worlds.specs.declared.low_pump.parts.LowPumpParts.{LowPumpParts}
 use Rattle.two_worlds.specs.declared.pump.parts.Parts.{Parts}
 use Rattle.two_worlds.specs.declared.pump.state.BareDisks.{BareDisks}
 use Rattle.two_worlds.specs.declared.pump.state.PumpState.{PumpState}
@@ -249,7 +249,7 @@ module _ {D : Type 0} (m : Meaning D) where
 
 -- ---- a low side alone ----
 
-pub low_parts_stand : (c : LowParts) (p : PastAlone) → PartsStand c p
+pub low_parts_stand : (c : LowPumpParts) (p : PastAlone) → PartsStand c p
     → PartsStand (record c { row = coarse_row c.row; process = low.made_coarse c.process; store = low_made_coarse c.store }) p
 low_parts_stand c p s = record {
   row = s.row;

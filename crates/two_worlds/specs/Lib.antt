@@ -1,7 +1,7 @@
 pub mod Connections
 pub mod Doing
 pub mod Keeping
-pub mod LowParts
+pub mod LowPumpParts
 pub mod LowPumps
 pub mod Openings
 pub mod Printing

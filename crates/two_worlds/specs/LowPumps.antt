@@ -6,7 +6,7 @@ use Rattle.low_process.specs.Looks.{is_down}
 use Rattle.script_reader.specs.declared.event.Event.{Event}
 use Rattle.script_reader.specs.declared.line.Line.{Line}
 use Rattle.script_reader.specs.Alone.{PastAlone, is_apt_alone, StepAlone, IsRefusedAlone}
-use Rattle.two_worlds.specs.LowParts.{PartsStand, disk_of}
+use Rattle.two_worlds.specs.LowPumpParts.{PartsStand, disk_of}
 use Rattle.two_worlds.specs.declared.applied.Stop.{Stop}
 use Rattle.two_worlds.specs.declared.applied.Stop.TheVariants as stops
 use Rattle.two_worlds.specs.declared.low_pump.LowPump.{LowPump}

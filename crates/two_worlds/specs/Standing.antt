@@ -145,7 +145,7 @@ pub record EndsAreReady {D : Type 0} (c : Parts D) (published : List ℕ) : Type
 pub record KeepsPackets {D : Type 0} (c : Parts D) : Type 0 where
   pub sent : c.sent.capacity ≡ 64
   pub returned : c.returned.capacity ≡ 64
-  pub taken : c.taken.session ≡ c.row.id
+  pub taken : c.taken.value.session ≡ c.row.id
 
 -- what waits on the connection is kept, at most 64 arrivals, and how far its bytes were read
 pub record KeepsArrivals {D : Type 0} (c : Parts D) (p : Past) : Type 0 where

@@ -1,6 +1,6 @@
 //! The low side of a session alone: a script tells what the passage answers.
 
-ghost use Rattle.two_worlds.specs.LowParts.{StandsForSome};
+ghost use Rattle.two_worlds.specs.LowPumpParts.{StandsForSome};
 ghost use Rattle.std.specs.Prelude.{◌≡◌, false};
 ghost use Rattle.low_process.specs.Looks.{is_down};
 
@@ -13,13 +13,13 @@ use std::alloc::Global;
 
 mod parts;
 
-use parts::LowParts;
+use parts::LowPumpParts;
 
 /// The low process of a session with its connection and its store, which lies on a disk in memory.
 /// All its room was taken when it was made.
 #[derive(Drop)]
 pub struct LowPump {
-    parts: LowParts,
+    parts: LowPumpParts,
     ghost stands: { is_down parts.process ≡ false → ∥ StandsForSome parts ∥₁ },
 }
 
@@ -49,7 +49,7 @@ impl LowPump {
         ensures row { IfOk result (λ pump. low_row_of pump ≡ row.now) }
         ensures up { IfOk result (λ pump. low_is_down pump ≡ false) }
     {
-        let parts = LowParts::open(alloc, row, next, held)?;
+        let parts = LowPumpParts::open(alloc, row, next, held)?;
         Ok(LowPump { parts })
     }
 

@@ -50,7 +50,7 @@ impl<D: Disk> Pump<D> {
     ghost use Rattle.two_worlds.specs.Printing.{lines_in};
     ghost use Rattle.script_reader.specs.Past.{Past};
     ghost use Rattle.script_reader.specs.Openings.{Found, first_past, nothing_found};
-    ghost use Rattle.world_laws.specs.Disks.{Opens, CrashesOpen, LeaveWorld, OpenAgain};
+    ghost use Rattle.world_laws.specs.Disks.{DisksOpen, CrashesOpen, LeaveWorld, OpenAgain};
     ghost use Rattle.recovery.specs.Calls.{is_device};
     ghost use Rattle.two_worlds.specs.LowPumps.{stops_at_disk};
     ghost use Rattle.two_worlds.specs.Pumps.{row_of, StandsFor, StandsOrFails, counts_of, is_down, kept_moment};
@@ -261,7 +261,7 @@ impl<D: Disk> Pump<D> {
         ensures again { (p : Past) → StandsOrFails D.told self p
             → OpenAgain D.told (row_of self) p.world result.0 result.1 result.2 }
         ensures open { CrashesOpen D.told (row_of self) result.0 result.1 result.2 }
-        ensures read { D.told.tells → Opens (row_of self) (D.told.reading result.0) (D.told.reading result.1)
+        ensures read { D.told.tells → DisksOpen (row_of self) (D.told.reading result.0) (D.told.reading result.1)
             (D.told.reading result.2) }
     {
         let disks = self.state.into_disks();

@@ -16,7 +16,7 @@ ghost use Rattle.two_worlds.specs.Pumps.{StandsFor, StandsOrFails, row_of, is_do
 
 use crate::chain::Chain;
 use crate::not_chained::{ChainWhy, NotChained};
-use crate::place::Place;
+use crate::place::LogPlace;
 use crate::sender::Sender;
 use crate::six::Six;
 use disk_model::{Disk, Role};
@@ -90,7 +90,7 @@ impl<D: Disk> Chain<D> {
             first,
             second,
             sender: Sender::new(),
-            place: Place::first(),
+            place: LogPlace::first(),
             is_under_way: false,
         }
     }

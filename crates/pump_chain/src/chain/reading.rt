@@ -7,7 +7,7 @@ ghost use Rattle.two_worlds.specs.Pumps.{StandsFor, counts_of, disk_at, is_down}
 ghost use Rattle.two_worlds.specs.Reads.{ReadsOn, FailsReading};
 
 use crate::chain::Chain;
-use crate::place::Place;
+use crate::place::LogPlace;
 use disk_model::Disk;
 use pump_frame::Payload;
 use stable_buffer::Device;
@@ -30,7 +30,7 @@ impl<D: Disk> Chain<D> {
     {
         let number = self.place.number;
         let at = self.first.received(number, self.place.at, into)?;
-        self.place = Place {
+        self.place = LogPlace {
             number: number + 1,
             at,
         };
@@ -46,7 +46,7 @@ impl<D: Disk> Chain<D> {
         ensures under_way { self.new.is_under_way ≡ self.old.is_under_way }
     {
         if number < self.place.number {
-            self.place = Place::first();
+            self.place = LogPlace::first();
         }
     }
 

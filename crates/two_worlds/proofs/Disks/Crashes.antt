@@ -12,7 +12,7 @@ use Rattle.pump_core.specs.World.{World}
 use Rattle.pump_core.specs.Events.{with_kept, pump_crashed, receiver_crashed}
 use Rattle.pump_core.specs.Lawful.{IsLawful}
 use Rattle.pump_core.proofs.Laws.{stays_lawful}
-use Rattle.world_laws.specs.Disks.{LowFits, HighFits, RecvFits, Hold, Opens, CrashesOpen}
+use Rattle.world_laws.specs.Disks.{LowFits, HighFits, RecvFits, Hold, DisksOpen, CrashesOpen}
 
 abbrev pub LowAt : SessionRow → ℕ → List Payload → List ℕ → Type 0
 LowAt row removed accepted disk = LowStands row (length accepted) removed (drop removed accepted) disk
@@ -63,7 +63,7 @@ kept_longer false o ps = omega arith
 pub prefix_length : (xs rest ys : List Payload) → xs ++ rest ≡ ys → length xs ≤ length ys
 prefix_length xs rest ys e = omega (arith, ap length e, length-append xs rest)
 
-pub opens : (row : SessionRow) (w : World) (a b c : List ℕ) → IsLawful w → LowFits row w a → HighFits row w b → RecvFits row w c → Opens row a b c
+pub opens : (row : SessionRow) (w : World) (a b c : List ℕ) → IsLawful w → LowFits row w a → HighFits row w b → RecvFits row w c → DisksOpen row a b c
 opens row w a b c lawful fa fb fc =
     let low = low_case row w a lawful.bounded.within.below fa in
     let high = high_case row w b fb in
@@ -84,5 +84,5 @@ module _ {D : Type 0} (m : Meaning D) (row : SessionRow) (low high recv : D) (h 
   pub crashes_open : CrashesOpen m row low high recv
   crashes_open told a b c ia ib ic = opens row h.world a b c h.lawful (h.disks.low_disk.images told a ia) (h.disks.high_disk.images told b ib) (h.disks.recv_disk.images told c ic)
 
-  pub readings_open : m.tells → Opens row (m.reading low) (m.reading high) (m.reading recv)
+  pub readings_open : m.tells → DisksOpen row (m.reading low) (m.reading high) (m.reading recv)
   readings_open told = opens row h.world _ _ _ h.lawful (h.disks.low_disk.reading told) (h.disks.high_disk.reading told) (h.disks.recv_disk.reading told)

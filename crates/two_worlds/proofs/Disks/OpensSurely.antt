@@ -15,7 +15,7 @@ use Rattle.high_receiver.proofs.Appends.{records_push, length_prefix}
 use Rattle.pump_core.specs.World.{opened, Agree}
 use Rattle.pump_core.specs.Events.{Opened}
 use Rattle.pump_core.proofs.Laws.{begins_lawful}
-use Rattle.world_laws.specs.Disks.{Opens, Hold, CrashesOpen}
+use Rattle.world_laws.specs.Disks.{DisksOpen, Hold, CrashesOpen}
 use Rattle.two_worlds.proofs.Disks.Crashes.{crashes_open, readings_open}
 use Rattle.two_worlds.proofs.Opening.Headers.{low_stands_is, high_stands_is}
 use Rattle.two_worlds.proofs.Opening.Ready.{disk_stands}
@@ -91,7 +91,7 @@ module _ (row : SessionRow) (a b c : List ℕ) (small : row.message < 2 ^ 16) wh
   abbrev later : ℕ → List (List ℕ)
   later received = drop (received - B) live
 
-  module _ (o : Opens row a b c) where
+  module _ (o : DisksOpen row a b c) where
     removed_is : o.world.removed ≡ B
     removed_is = ap (λ (v : ℕ × ℕ). v.0) (sym o.high_is.value)
 
@@ -120,8 +120,8 @@ module _ (row : SessionRow) (a b c : List ℕ) (small : row.message < 2 ^ 16) wh
     accepted_is : (received : List (List ℕ)) → o.world.received ≡ received → o.world.accepted ≡ received ++ later (length received)
     accepted_is received same = sym o.lawful.delivered.prefix.1 ∙ ap (λ (l : List (List ℕ)). o.world.received ++ l) rest_is ∙ ap (λ (l : List (List ℕ)). l ++ later (length l)) same
 
-  module _ (received : List (List ℕ)) (stands : RecvStands row received c) (some : ∥ Opens row a b c ∥₁) where
-    same : (o : Opens row a b c) → o.world.accepted ≡ received ++ later (length received)
+  module _ (received : List (List ℕ)) (stands : RecvStands row received c) (some : ∥ DisksOpen row a b c ∥₁) where
+    same : (o : DisksOpen row a b c) → o.world.accepted ≡ received ++ later (length received)
     same o = accepted_is o received (one_received row o.world.received received c o.recv_is stands)
 
     agree : Agree 256 B received (later (length received))
@@ -130,7 +130,7 @@ module _ (row : SessionRow) (a b c : List ℕ) (small : row.message < 2 ^ 16) wh
       fits = ∥∥₁_elim some le_prop (λ o. (let w = o.lawful.bounded in let l = ap length (same o) in let r = removed_is o in omega (arith, w.within.above, w.size, l, r)));
     }
 
-    opens_by : Opens row a b c
+    opens_by : DisksOpen row a b c
     opens_by = record {
       world = opened 256 B received (later (length received));
       lawful = begins_lawful _ (Opened 256 B received (later (length received)) (omega arith) (omega arith) agree);
@@ -141,7 +141,7 @@ module _ (row : SessionRow) (a b c : List ℕ) (small : row.message < 2 ^ 16) wh
     }
 
   -- disks that open in some way open in one way
-  pub opens_surely : ∥ Opens row a b c ∥₁ → Opens row a b c
+  pub opens_surely : ∥ DisksOpen row a b c ∥₁ → DisksOpen row a b c
   opens_surely some =
       let r = disk_stands row c (∥∥₁_map some (λ o. (o.world.received, o.recv_is))) in
       opens_by r.0 r.1 some
@@ -151,5 +151,5 @@ module _ {D : Type 0} (m : Meaning D) (row : SessionRow) (small : row.message < 
   pub crashes_surely_open : CrashesOpen m row low high recv
   crashes_surely_open told a b c ia ib ic = opens_surely row a b c small (∥∥₁_map (h (m.images_tell told)) (λ t. crashes_open m row low high recv t told a b c ia ib ic))
 
-  pub readings_surely_open : m.tells → Opens row (m.reading low) (m.reading high) (m.reading recv)
+  pub readings_surely_open : m.tells → DisksOpen row (m.reading low) (m.reading high) (m.reading recv)
   readings_surely_open told = opens_surely row _ _ _ small (∥∥₁_map (h told) (λ t. readings_open m row low high recv t told))

@@ -31,7 +31,7 @@ count_is m c p s n e = e ∙ sym s.world.received
 
 -- with that count its ATTACH comes
 pub attach_comes : {D : Type 0} (m : Meaning D) (c : Parts D) (p : Past) → Stands m c p → (n : ℕ) → n ≡ recv_count c.receiver
-    → (back : Option ℕ) × ComesBack c.row.id p.world true (Some (numbered c Attach n).taken) back
+    → (back : Option ℕ) × ComesBack c.row.id p.world true (Some (numbered c Attach n).taken.value) back
 attach_comes m c p s n e =
     let count = count_is m c p s n e in
     let last = last_place p.world n s.sound.answered (sym count) in

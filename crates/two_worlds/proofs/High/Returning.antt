@@ -40,7 +40,7 @@ number_comes m c p s back n less at =
 
 -- the parts with this kind and this number in the frame at hand
 abbrev pub numbered : {D : Type 0} → Parts D → Kind → ℕ → Parts D
-numbered c kind n = record c { taken = record c.taken { kind = kind; number = n } }
+numbered c kind n = record c { taken = record c.taken { value = record c.taken.value { kind = kind; number = n } } }
 
 pub stands_numbered : {D : Type 0} (m : Meaning D) (c : Parts D) (kind : Kind) (n : ℕ) (p : Past) → Stands m c p → Stands m (numbered c kind n) p
 stands_numbered m c kind n p s = record {
@@ -95,7 +95,7 @@ able_numbered m c kind n able = record {
 
 -- so it is the session's TAKEN that comes back
 pub comes_numbered : {D : Type 0} (m : Meaning D) (c : Parts D) (p : Past) → Stands m c p → (back n : ℕ) → back < length c.returned.items
-    → slice_get c.returned.items (place c.returned.items back) ≡ Some n → ComesBack c.row.id p.world false (Some (numbered c Taken n).taken) (Some (place p.world.returned back))
+    → slice_get c.returned.items (place c.returned.items back) ≡ Some n → ComesBack c.row.id p.world false (Some (numbered c Taken n).taken.value) (Some (place p.world.returned back))
 comes_numbered m c p s back n less at = (refl, s.packets.taken, number_comes m c p s back n less at)
 
 -- ---- a TAKEN that is refused ----
@@ -116,11 +116,11 @@ number_in (Some n) = n
 
 -- a TAKEN of a message that was not sent
 pub refuses_number : {D : Type 0} (m : Meaning D) (c : Parts D) (session moment back n : ℕ) → IsAble m c → slice_get c.returned.items (place c.returned.items back) ≡ Some n
-    → IsAheadBy c (lines.Return session moment back) → task_at c.high (Some (numbered c Taken n).taken) ≡ Refuse (Ahead n (expected (removed_of c.high) (hand_of c.high)))
+    → IsAheadBy c (lines.Return session moment back) → task_at c.high (Some (numbered c Taken n).taken.value) ≡ Refuse (Ahead n (expected (removed_of c.high) (hand_of c.high)))
 refuses_number m c session moment back n able at ahead =
     let removed = removed_of c.high in
     let next = expected removed (hand_of c.high) in
-    let own : c.taken.session ≡ c.high.row.id = ∥∥₁_elim able.works (hlevel props) (λ w. w.packets.taken ∙ ap (λ (r : SessionRow). r.id) (sym w.high_ready.row)) in
+    let own : c.taken.value.session ≡ c.high.row.id = ∥∥₁_elim able.works (hlevel props) (λ w. w.packets.taken ∙ ap (λ (r : SessionRow). r.id) (sym w.high_ready.row)) in
     let same : n ≡ ahead.0 = ap number_in (sym at ∙ ahead.1) in
-    ap (λ (b : Bool). if b then task_in Taken n removed next else Keep) (eq-eqb c.taken.session c.high.row.id own)
+    ap (λ (b : Bool). if b then task_in Taken n removed next else Keep) (eq-eqb c.taken.value.session c.high.row.id own)
     ∙ refused_in n removed next (expected_up removed (hand_of c.high)) (omega (arith, same, ahead.2))

@@ -10,7 +10,7 @@ use Rattle.pump_core.specs.Events.{Opened}
 use Rattle.pump_core.proofs.Laws.{begins_lawful}
 use Rattle.recovery.specs.Agreement.{Disagrees}
 use Rattle.recovery.specs.Calls.{is_device}
-use Rattle.recovery.specs.Joint.{Opens}
+use Rattle.recovery.specs.Joint.{OpensJointly}
 use Rattle.recovery.specs.declared.why.Why.{Why}
 use Rattle.recovery.proofs.Triples.{each_world}
 use Rattle.script_reader.specs.Openings.{Found, accepted_in, opened_world}
@@ -22,7 +22,7 @@ use Rattle.two_worlds.proofs.Opening.Comparing.{never_fails}
 use Rattle.two_worlds.proofs.Opening.Opened.{received_end}
 
 module _ (row : SessionRow) (lawful : IsLawfulRow row) (small : row.id < 2 ^ 32) (f : Found) (low high recv : List ℕ) (s : StandForFound row f low high recv) where
-  opens : Opens row receiver_size (length (accepted_in f)) f.removed (length f.received) f.received low high recv
+  opens : OpensJointly row receiver_size (length (accepted_in f)) f.removed (length f.received) f.received low high recv
   opens =
       let wide = row_capacity row lawful in
       each_world row (opened_world row f) receiver_size low high recv lawful small (record {

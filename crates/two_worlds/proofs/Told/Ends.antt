@@ -24,10 +24,10 @@ use Rattle.script_reader.specs.Lows.{first_of, is_bad}
 use Rattle.script_reader.specs.Alone.{PastAlone, told_of_read, IsToldAt}
 use Rattle.two_worlds.specs.Connections.{Connected, waits_of, is_broken_of, reading_of, unused, offered_by, settled}
 use Rattle.two_worlds.specs.Printing.{look_prints}
-use Rattle.two_worlds.specs.LowParts.{PartsStand, Finishes, AnsweredBy, answer_of, EndsBy}
+use Rattle.two_worlds.specs.LowPumpParts.{PartsStand, Finishes, AnsweredBy, answer_of, EndsBy}
 use Rattle.two_worlds.specs.Private.LowLooks.{stop_of}
 use Rattle.two_worlds.specs.declared.applied.Stop.{Stop}
-use Rattle.two_worlds.specs.declared.low_pump.parts.LowParts.{LowParts}
+use Rattle.two_worlds.specs.declared.low_pump.parts.LowPumpParts.{LowPumpParts}
 use Rattle.script_reader.proofs.Hearing.{Hears}
 use Rattle.two_worlds.proofs.Told.Looks.{ToldStep, Settles, look_ends}
 
@@ -86,30 +86,30 @@ not_broken false = refl
 unused_broken : (b : Bool) (k : Connected) → k ≡ unused → is_broken_of k ≡ (is_broken_of k || (b && is_bad Gone))
 unused_broken b k none = subst (λ (t : Connected). is_broken_of t ≡ (is_broken_of t || (b && is_bad Gone))) (sym none) (not_broken b)
 
-module _ (c e d : LowParts) (mid : LowProcess) (new : LowStore Plain) (m w : ℕ) (told : ToldFeedback) (a : Arrival) (ask : Ask) (l : LowLook)
+module _ (c e d : LowPumpParts) (mid : LowProcess) (new : LowStore Plain) (m w : ℕ) (told : ToldFeedback) (a : Arrival) (ask : Ask) (l : LowLook)
     (begun : (is_fault : Bool) × BeginStep plain_meaning c.process mid c.store new m w a is_fault ask) (hand : HandBegins c.process mid a ask)
     (store : HasStore plain_meaning mid new) (same : row_of mid ≡ row_of c.process) (now : last_of mid ≡ m)
     (answered : AnsweredBy c.row told mid e.process ask l) (rest : e ≡ record { row = c.row; connection = c.connection; process = e.process; store = new; moment = c.moment }) where
   step : ToldStep c.row c.process e.process c.store e.store m w a told begun.0 l
-  step = subst (λ (s : LowStore Plain). ToldStep c.row c.process e.process c.store s m w a told begun.0 l) (sym (ap (λ (t : LowParts). t.store) rest))
+  step = subst (λ (s : LowStore Plain). ToldStep c.row c.process e.process c.store s m w a told begun.0 l) (sym (ap (λ (t : LowPumpParts). t.store) rest))
       (told_step c.row told c.process mid e.process c.store new m w a begun.0 l same now store ask begun.1 hand answered)
 
   module _ (k : Connected) (left : d ≡ record { row = e.row; connection = k; process = e.process; store = e.store; moment = m }) (events : List Event) (stop : Option Stop)
       (prints : events ≡ look_prints e.row.id m l) (stops_so : stop ≡ result_err (stop_of plain_meaning d.process d.store)) where
     row_is : e.row ≡ c.row
-    row_is = ap (λ (t : LowParts). t.row) rest
+    row_is = ap (λ (t : LowPumpParts). t.row) rest
 
     connection_is : e.connection ≡ c.connection
-    connection_is = ap (λ (t : LowParts). t.connection) rest
+    connection_is = ap (λ (t : LowPumpParts). t.connection) rest
 
     step_then : ToldStep c.row c.process d.process c.store d.store m w a told begun.0 l
-    step_then = subst (λ (t : LowParts). ToldStep c.row c.process t.process c.store t.store m w a told begun.0 l) (sym left) step
+    step_then = subst (λ (t : LowPumpParts). ToldStep c.row c.process t.process c.store t.store m w a told begun.0 l) (sym left) step
 
     prints_then : events ≡ look_prints c.row.id m l
     prints_then = prints ∙ ap (λ (r : SessionRow). look_prints r.id m l) row_is
 
     row_then : d.row ≡ c.row
-    row_then = ap (λ (t : LowParts). t.row) left ∙ row_is
+    row_then = ap (λ (t : LowPumpParts). t.row) left ∙ row_is
 
     ended : Settles c d m a l → (p : PastAlone) → PartsStand c p → EndsBy ⊥ (λ fault q printed. IsToldAt c.row p m w told a fault q printed) c d events stop
     ended settles p was = look_ends c d p m w a told begun.0 l was step_then settles events stop prints_then stops_so
@@ -118,7 +118,7 @@ module _ (c e d : LowParts) (mid : LowProcess) (new : LowStore Plain) (m w : ℕ
     pub first_ends : a ≡ offered_by c.connection → k ≡ settled e.connection l.taken → (p : PastAlone) → PartsStand c p
         → EndsBy ⊥ (λ fault q printed. IsToldAt c.row p m w told (first_of p.is_broken p.waits) fault q printed) c d events stop
     first_ends first settle p was =
-        let k' : d.connection ≡ settled c.connection l.taken = ap (λ (t : LowParts). t.connection) left ∙ settle ∙ ap (λ (t : Connected). settled t l.taken) connection_is in
+        let k' : d.connection ≡ settled c.connection l.taken = ap (λ (t : LowPumpParts). t.connection) left ∙ settle ∙ ap (λ (t : Connected). settled t l.taken) connection_is in
         let arrival : a ≡ first_of p.is_broken p.waits = first ∙ ap (λ (t : Bool × List Arrival). first_of t.0 t.1) (λ i. (was.broken i, was.waits i)) in
         subst (λ (t : Arrival). EndsBy ⊥ (λ fault q printed. IsToldAt c.row p m w told t fault q printed) c d events stop) arrival
         (ended (record {
@@ -126,19 +126,19 @@ module _ (c e d : LowParts) (mid : LowProcess) (new : LowStore Plain) (m w : ℕ
           broken = ap is_broken_of k' ∙ ap (λ (t : Arrival). is_broken_of c.connection || (l.taken && is_bad t)) (sym first);
           reading = ap reading_of k';
           row = row_then;
-          moment = ap (λ (t : LowParts). t.moment) left;
+          moment = ap (λ (t : LowPumpParts). t.moment) left;
         }) p was)
 
     -- the look of a connection that is lost
     pub gone_ends : a ≡ Gone → c.connection ≡ unused → k ≡ e.connection → (p : PastAlone) → PartsStand c p
         → EndsBy ⊥ (λ fault q printed. IsToldAt c.row p m w told Gone fault q printed) c d events stop
     gone_ends gone none stays p was =
-        let same : d.connection ≡ c.connection = ap (λ (t : LowParts). t.connection) left ∙ stays ∙ connection_is in
+        let same : d.connection ≡ c.connection = ap (λ (t : LowPumpParts). t.connection) left ∙ stays ∙ connection_is in
         subst (λ (t : Arrival). EndsBy ⊥ (λ fault q printed. IsToldAt c.row p m w told t fault q printed) c d events stop) gone
         (ended (record {
           waits = ap waits_of same ∙ unused_waits l.taken c.connection none;
           broken = ap is_broken_of same ∙ unused_broken l.taken c.connection none ∙ ap (λ (t : Arrival). is_broken_of c.connection || (l.taken && is_bad t)) (sym gone);
           reading = ap reading_of same;
           row = row_then;
-          moment = ap (λ (t : LowParts). t.moment) left;
+          moment = ap (λ (t : LowPumpParts). t.moment) left;
         }) p was)

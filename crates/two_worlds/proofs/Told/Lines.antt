@@ -27,15 +27,15 @@ use Rattle.script_reader.specs.Lows.{first_of}
 use Rattle.script_reader.specs.Steps.{LineComing, Arrives}
 use Rattle.script_reader.specs.Alone.{PastAlone, IsToldAt, joined_alone, lost_alone, tells_level, is_apt_alone, IsRefusedAlone, StepAlone}
 use Rattle.two_worlds.specs.Connections.{Connected, waits_of, is_broken_of, reading_of, unused, joined, Joins}
-use Rattle.two_worlds.specs.LowParts.{PartsStand, StandsForSome, armed_if, EndsBy, Crowds, IsJoinedTold}
+use Rattle.two_worlds.specs.LowPumpParts.{PartsStand, StandsForSome, armed_if, EndsBy, Crowds, IsJoinedTold}
 use Rattle.two_worlds.specs.declared.applied.Stop.{Stop}
 use Rattle.two_worlds.specs.declared.applied.Stop.TheVariants as stops
-use Rattle.two_worlds.specs.declared.low_pump.parts.LowParts.{LowParts}
+use Rattle.two_worlds.specs.declared.low_pump.parts.LowPumpParts.{LowPumpParts}
 
 -- ---- how a line ends, by a part of it ----
 
 -- what could not fail to be done led on from parts before
-pub ends_after : (Bars : Type 0) (Does More : Bool → PastAlone → List Event → Type 0) (c e d : LowParts) (events : List Event) (stop : Option Stop)
+pub ends_after : (Bars : Type 0) (Does More : Bool → PastAlone → List Event → Type 0) (c e d : LowPumpParts) (events : List Event) (stop : Option Stop)
     → ((fault : Bool) (q : PastAlone) (printed : List Event) → Does fault q printed → More fault q printed)
     → EndsBy ⊥ Does e d events stop → EndsBy Bars More c d events stop
 ends_after Bars Does More c e d events None f h = (h.0, f false h.0 events h.1, h.2)
@@ -46,7 +46,7 @@ ends_after Bars Does More c e d events (Some (stops.Device roles.Recv faults)) f
 ends_after Bars Does More c e d events (Some (stops.Full end size_of_message size)) f h = absurd h
 ends_after Bars Does More c e d events (Some (stops.Disk role why)) f h = absurd h
 
-pub ends_as : (Bars Bars' : Type 0) (Does More : Bool → PastAlone → List Event → Type 0) (c d : LowParts) (events : List Event) (stop : Option Stop)
+pub ends_as : (Bars Bars' : Type 0) (Does More : Bool → PastAlone → List Event → Type 0) (c d : LowPumpParts) (events : List Event) (stop : Option Stop)
     → (Bars → Bars') → ((fault : Bool) (q : PastAlone) (printed : List Event) → Does fault q printed → More fault q printed)
     → EndsBy Bars Does c d events stop → EndsBy Bars' More c d events stop
 ends_as Bars Bars' Does More c d events None b f h = (h.0, f false h.0 events h.1, h.2)
@@ -97,10 +97,10 @@ still_of true p store of = record {
 }
 
 -- the parts with another connection and store
-abbrev pub with_comings : LowParts → Connected → LowStore Plain → LowParts
+abbrev pub with_comings : LowPumpParts → Connected → LowStore Plain → LowPumpParts
 with_comings c k store = record { row = c.row; connection = k; process = c.process; store = store; moment = c.moment }
 
-pub joins_stand : (c : LowParts) (p : PastAlone) (fault : Bool) (come : LineComing) → PartsStand c p → PartsStand (with_comings c (joined c.connection come) (armed_if fault c.store)) (joined_alone p fault come)
+pub joins_stand : (c : LowPumpParts) (p : PastAlone) (fault : Bool) (come : LineComing) → PartsStand c p → PartsStand (with_comings c (joined c.connection come) (armed_if fault c.store)) (joined_alone p fault come)
 joins_stand c p fault come was = record {
   row = was.row;
   history = was.history;
@@ -116,7 +116,7 @@ joins_stand c p fault come was = record {
   room = subst (λ (n : ℕ). low_size c.row ≤ n) (room_is fault c.store) was.room;
 }
 
-pub lost_stands : (c : LowParts) (p : PastAlone) (k : Connected) → k ≡ unused → PartsStand c p → PartsStand (with_comings c k c.store) (lost_alone p)
+pub lost_stands : (c : LowPumpParts) (p : PastAlone) (k : Connected) → k ≡ unused → PartsStand c p → PartsStand (with_comings c k c.store) (lost_alone p)
 lost_stands c p k none was = record {
   row = was.row;
   history = was.history;
@@ -135,20 +135,20 @@ lost_stands c p k none was = record {
 -- ---- lines ----
 
 -- a `told` line: what comes joins what waits
-module _ (c : LowParts) (k : Connected) (store : LowStore Plain) (fault : Bool) (a : Arriving) (joins : Joins c.connection k c.row.id a true) (arms : store ≡ armed_if fault c.store) where
-  abbrev mid : LowParts
+module _ (c : LowPumpParts) (k : Connected) (store : LowStore Plain) (fault : Bool) (a : Arriving) (joins : Joins c.connection k c.row.id a true) (arms : store ≡ armed_if fault c.store) where
+  abbrev mid : LowPumpParts
   mid = with_comings c k store
 
   mid_is : with_comings c (joined c.connection joins.0) (armed_if fault c.store) ≡ mid
   mid_is = ap (λ (t : Connected × LowStore Plain). with_comings c t.0 t.1) (λ i. (sym joins.2.1 i, sym arms i))
 
   stands_with : (p : PastAlone) → PartsStand c p → PartsStand mid (joined_alone p fault joins.0)
-  stands_with p was = subst (λ (t : LowParts). PartsStand t (joined_alone p fault joins.0)) mid_is (joins_stand c p fault joins.0 was)
+  stands_with p was = subst (λ (t : LowPumpParts). PartsStand t (joined_alone p fault joins.0)) mid_is (joins_stand c p fault joins.0 was)
 
   pub told_stands : ∥ StandsForSome c ∥₁ → ∥ StandsForSome mid ∥₁
   told_stands some = ∥∥₁_elim some (hlevel props) (λ s. ∣ (joined_alone s.0 fault joins.0, stands_with s.0 s.1) ∣₁)
 
-  pub told_ends : (d : LowParts) (m w : ℕ) (told : ToldFeedback) (events : List Event) (stop : Option Stop)
+  pub told_ends : (d : LowPumpParts) (m w : ℕ) (told : ToldFeedback) (events : List Event) (stop : Option Stop)
       → ((p : PastAlone) → PartsStand mid p
       → EndsBy ⊥ (λ is_fault q printed. IsToldAt c.row p m w told (first_of p.is_broken p.waits) is_fault q printed) mid d events stop)
       → (p : PastAlone) → PartsStand c p → EndsBy (Crowds c.row fault a p) (IsJoinedTold c.row m w fault told a p) c d events stop
@@ -164,11 +164,11 @@ module _ (c : LowParts) (k : Connected) (store : LowStore Plain) (fault : Bool) 
       )) (looks p' (stands_with p was))
 
 -- a `gone` line
-module _ (c : LowParts) (k : Connected) (none : k ≡ unused) where
+module _ (c : LowPumpParts) (k : Connected) (none : k ≡ unused) where
   pub gone_stands : ∥ StandsForSome c ∥₁ → ∥ StandsForSome (with_comings c k c.store) ∥₁
   gone_stands some = ∥∥₁_elim some (hlevel props) (λ s. ∣ (lost_alone s.0, lost_stands c s.0 k none s.1) ∣₁)
 
-  pub gone_ends : (d : LowParts) (m : ℕ) (events : List Event) (stop : Option Stop)
+  pub gone_ends : (d : LowPumpParts) (m : ℕ) (events : List Event) (stop : Option Stop)
       → ((p : PastAlone) → PartsStand (with_comings c k c.store) p
       → EndsBy ⊥ (λ is_fault q printed. IsToldAt c.row p m 0 Quiet Gone is_fault q printed) (with_comings c k c.store) d events stop)
       → (p : PastAlone) → PartsStand c p → EndsBy ⊥ (λ is_fault q printed. IsToldAt c.row (lost_alone p) m 0 Quiet Gone is_fault q printed) c d events stop
@@ -178,7 +178,7 @@ module _ (c : LowParts) (k : Connected) (none : k ≡ unused) where
 
 -- ---- which lines can be applied ----
 
-module _ (c : LowParts) (p : PastAlone) (was : PartsStand c p) where
+module _ (c : LowPumpParts) (p : PastAlone) (was : PartsStand c p) where
   timely_is : (session m : ℕ) → (session == c.row.id && nat_le c.moment m) ≡ (session == c.row.id && nat_le p.moment m)
   timely_is session m = ap (λ (n : ℕ). session == c.row.id && nat_le n m) was.moment
 
@@ -189,7 +189,7 @@ module _ (c : LowParts) (p : PastAlone) (was : PartsStand c p) where
   names : (session : ℕ) (more : Bool) → (session == c.row.id && more) ≡ true → c.row.id ≡ session
   names session more apt = sym (eqb-true session c.row.id (and_parts (session == c.row.id) more apt).0)
 
-  module _ (session m w : ℕ) (fault : Bool) (told : ToldFeedback) (a : Arriving) (d : LowParts) (events : List Event) (stop : Option Stop)
+  module _ (session m w : ℕ) (fault : Bool) (told : ToldFeedback) (a : Arriving) (d : LowPumpParts) (events : List Event) (stop : Option Stop)
       (apt : (session == c.row.id && (nat_le c.moment m && tells_level c.row told)) ≡ true) where
     abbrev told_line : Line
     told_line = lines.Told session m w fault told a
@@ -202,7 +202,7 @@ module _ (c : LowParts) (p : PastAlone) (was : PartsStand c p) where
         (λ crowds. inr (crowds.0, subst (λ (n : ℕ). Arrives n p.reading a crowds.0) (names session (nat_le c.moment m && tells_level c.row told) apt) crowds.1, crowds.2))
         (λ is_fault q printed look. (sym (apt_is session m told) ∙ apt, (look.0, subst (λ (n : ℕ). Arrives n p.reading a look.0) (names session (nat_le c.moment m && tells_level c.row told) apt) look.1, look.2))) h
 
-  module _ (session m : ℕ) (d : LowParts) (events : List Event) (stop : Option Stop) (timely : (session == c.row.id && nat_le c.moment m) ≡ true) where
+  module _ (session m : ℕ) (d : LowPumpParts) (events : List Event) (stop : Option Stop) (timely : (session == c.row.id && nat_le c.moment m) ≡ true) where
     abbrev gone_line : Line
     gone_line = lines.Gone session m
 
@@ -220,7 +220,7 @@ and_more true true more e = absurd (cc)
 and_more true false more e = refl
 and_more false b more e = refl
 
-module _ (c : LowParts) (p : PastAlone) (was : PartsStand c p) where
+module _ (c : LowPumpParts) (p : PastAlone) (was : PartsStand c p) where
   -- of another session, or with a moment that falls
   pub late_alone : (bytes : List ℕ) (session moment : ℕ) (act : Act) → (session == c.row.id && nat_le c.moment moment) ≡ false
       → is_apt_alone c.row p (act_with bytes session moment act) ≡ false
@@ -236,7 +236,7 @@ module _ (c : LowParts) (p : PastAlone) (was : PartsStand c p) where
   late_alone bytes session moment acts.ReceiverRestart late = refl
 
 -- of the parts' own session, with a moment that does not fall
-module _ (c : LowParts) (moment : ℕ) (order : c.moment ≤ moment) where
+module _ (c : LowPumpParts) (moment : ℕ) (order : c.moment ≤ moment) where
   pub on_time : (c.row.id == c.row.id && nat_le c.moment moment) ≡ true
   on_time = rw (eq-eqb c.row.id c.row.id refl, le-leb c.moment moment order) refl
 

@@ -25,10 +25,10 @@ use Rattle.script_reader.specs.Lows.{is_bad, printed_store, printed_feedback, pr
 use Rattle.script_reader.specs.Alone.{PastAlone, begins_store, told_feedback, IsToldLook, IsToldAt}
 use Rattle.two_worlds.specs.Connections.{waits_of, is_broken_of, reading_of}
 use Rattle.two_worlds.specs.Printing.{printed_reply, look_prints}
-use Rattle.two_worlds.specs.LowParts.{disk_of, PartsStand, EndsBy}
+use Rattle.two_worlds.specs.LowPumpParts.{disk_of, PartsStand, EndsBy}
 use Rattle.two_worlds.specs.Private.LowLooks.{stop_of}
 use Rattle.two_worlds.specs.declared.applied.Stop.{Stop}
-use Rattle.two_worlds.specs.declared.low_pump.parts.LowParts.{LowParts}
+use Rattle.two_worlds.specs.declared.low_pump.parts.LowPumpParts.{LowPumpParts}
 use Rattle.pump_core.proofs.CutsFit.{cuts_fit}
 use Rattle.two_worlds.proofs.Low.Serves.{stop_by}
 use Rattle.two_worlds.proofs.Low.Stepping.{lives_reply}
@@ -51,14 +51,14 @@ prints_reply session m w a d l None = refl
 prints_reply session m w a d l (Some r) = refl
 
 -- what a look leaves of the connection; its moment is the last one
-pub record Settles (c d : LowParts) (m : ℕ) (a : Arrival) (l : LowLook) : Type 0 where
+pub record Settles (c d : LowPumpParts) (m : ℕ) (a : Arrival) (l : LowLook) : Type 0 where
   pub waits : waits_of d.connection ≡ (if l.taken then drop 1 (waits_of c.connection) else waits_of c.connection)
   pub broken : is_broken_of d.connection ≡ (is_broken_of c.connection || (l.taken && is_bad a))
   pub reading : reading_of d.connection ≡ reading_of c.connection
   pub row : d.row ≡ c.row
   pub moment : d.moment ≡ m
 
-module _ (c d : LowParts) (p : PastAlone) (m w : ℕ) (a : Arrival) (told : ToldFeedback) (is_fault : Bool) (l : LowLook)
+module _ (c d : LowPumpParts) (p : PastAlone) (m w : ℕ) (a : Arrival) (told : ToldFeedback) (is_fault : Bool) (l : LowLook)
     (was : PartsStand c p) (step : ToldStep c.row c.process d.process c.store d.store m w a told is_fault l) (settles : Settles c d m a l) where
   abbrev row : SessionRow
   row = row_of c.process

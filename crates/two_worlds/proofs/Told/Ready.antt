@@ -12,8 +12,8 @@ use Rattle.low_process.specs.declared.values.Asking.{Asking}
 use Rattle.low_process.specs.declared.values.Asking.TheVariants as asks
 use Rattle.low_process.specs.Looks.{IsBetweenLooks, last_of, is_down}
 use Rattle.low_process.specs.Whole.{HasStore}
-use Rattle.two_worlds.specs.declared.low_pump.parts.LowParts.{LowParts}
-use Rattle.two_worlds.specs.LowParts.{StandsForSome}
+use Rattle.two_worlds.specs.declared.low_pump.parts.LowPumpParts.{LowPumpParts}
+use Rattle.two_worlds.specs.LowPumpParts.{StandsForSome}
 use Rattle.two_worlds.proofs.Opening.Headers.{header_is}
 
 -- the count alone tells what the disk of a ready store stands for
@@ -55,7 +55,7 @@ nothing_is asks.Nothing e = refl
 nothing_is asks.Forward e = absurd (cc)
 nothing_is (asks.Average n) e = absurd (cc)
 
-module _ (c : LowParts) (some : ∥ StandsForSome c ∥₁) where
+module _ (c : LowPumpParts) (some : ∥ StandsForSome c ∥₁) where
   pub is_between : IsBetweenLooks c.process
   is_between = nothing_is c.process.asking (∥∥₁_elim some (hlevel props) (λ s. ap asks_nothing s.1.history.asking))
 

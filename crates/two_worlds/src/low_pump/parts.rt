@@ -9,7 +9,7 @@ ghost use Rattle.pump_frame.specs.Rows.{IsLawfulRow};
 ghost use Rattle.low_process.specs.Looks.{IsHand};
 ghost use Rattle.script_reader.specs.Alone.{told_of_read, tells_level};
 ghost use Rattle.script_reader.specs.Lawful.{IsLawfulFeedback};
-ghost use Rattle.two_worlds.specs.LowParts.{armed_if, answer_of};
+ghost use Rattle.two_worlds.specs.LowPumpParts.{armed_if, answer_of};
 
 use crate::applied::Stop;
 use crate::connection::Connection;
@@ -26,7 +26,7 @@ use std::alloc::Global;
 
 /// The low process of a session with its connection and its store.
 #[derive(Drop)]
-pub struct LowParts {
+pub struct LowPumpParts {
     pub row: SessionRow,
     pub connection: Connection,
     pub process: LowProcess,
@@ -118,7 +118,7 @@ fn tells_level(row: &SessionRow, told: ToldFeedback) -> bool
     }
 }
 
-impl LowParts {
+impl LowPumpParts {
     ghost use Rattle.pump_core.specs.History.{Gone};
     ghost use Rattle.low_process.specs.Looks.{row_of, is_down};
     ghost use Rattle.low_process.specs.Heads.{ask_with, look_with};
@@ -129,8 +129,8 @@ impl LowParts {
     ghost use Rattle.script_reader.specs.Lows.{first_of};
     ghost use Rattle.script_reader.specs.Scripts.{IsEndAlone};
     ghost use Rattle.script_reader.specs.Alone.{PastAlone, fresh_alone, lost_alone, IsToldAt};
-    ghost use Rattle.two_worlds.specs.LowParts.{PartsStand, StandsForSome, HasAsked, AnsweredBy, Ends, EndsLine};
-    ghost use Rattle.two_worlds.specs.LowParts.{NeverBars, Crowds, IsJoinedTold};
+    ghost use Rattle.two_worlds.specs.LowPumpParts.{PartsStand, StandsForSome, HasAsked, AnsweredBy, Ends, EndsLine};
+    ghost use Rattle.two_worlds.specs.LowPumpParts.{NeverBars, Crowds, IsJoinedTold};
     ghost use Rattle.two_worlds.specs.Printing.{lines_in};
 
     /// The parts before the first line, with `next` messages stored, of which the last is held or not.
@@ -139,7 +139,7 @@ impl LowParts {
         row: &SessionRow,
         next: u64,
         held: bool,
-    ) -> Result<LowParts, OutOfMemory>
+    ) -> Result<LowPumpParts, OutOfMemory>
         requires lawful { IsLawfulRow row.now }
         requires next { next ≤ 2 ^ 48 }
         requires held { held ≡ true → 1 ≤ next }
@@ -150,7 +150,7 @@ impl LowParts {
         let store = new_store(disk, row, next);
         let hand = hand_of(next, held);
         let connection = Connection::new(alloc)?;
-        Ok(LowParts {
+        Ok(LowPumpParts {
             row: *row,
             connection,
             process: LowProcess::open(row, next, hand),

@@ -31,10 +31,11 @@ use disk_model::{Disk, Role};
 use high_process::{HighFault, HighLook};
 use pump_frame::{Frame, Kind};
 use script_reader::EventHead;
+use std::slice;
 
 /// The frame, where it comes back.
-fn frame_back(comes_back: bool, frame: &Frame) -> Option<&Frame>
-    ensures { frame_of result ≡ frame_when comes_back frame.now }
+fn frame_back(comes_back: bool, frame: &Box<Frame>) -> Option<&Frame>
+    ensures { frame_of result ≡ frame_when comes_back frame.now.value }
 {
     if comes_back { Some(frame) } else { None }
 }
@@ -62,7 +63,8 @@ impl<D: Disk> Parts<D> {
         }
         if let Some(number) = look.sent {
             if let Some(item) = self.high.hand() {
-                self.sent.push_back(*item);
+                // By reference, since a message has more than 1 KB and the first packet is let go.
+                self.sent.extend_from_slice(slice::from_ref(item));
             }
             put(
                 EventHead::Sent {
@@ -73,6 +75,19 @@ impl<D: Disk> Parts<D> {
                 out,
             );
         }
+    }
+
+    /// The frame at hand gets this kind and this number.
+    fn number_frame(&mut self, kind: Kind, number: u64)
+        ensures { self.new ≡ record self.old {
+          taken = record self.old.taken {
+            value = record self.old.taken.value { kind = kind; number = number };
+          };
+        } }
+    {
+        let frame = &mut *self.taken;
+        frame.kind = kind;
+        frame.number = number;
     }
 
     /// A high look at this moment, to which the TAKEN or the ATTACH at hand comes back or nothing.
@@ -87,23 +102,24 @@ impl<D: Disk> Parts<D> {
         requires moment { moment ≤ 2 ^ 62 }
         requires back { (p : Past) → Stands D.told self.old p
             → (attaches : Bool) × (back : Option ℕ)
-            × ComesBack self.old.row.id p.world attaches (frame_when comes_back self.old.taken) back }
-        requires out { length out.old.items + most_lines (frame_when comes_back self.old.taken) ≤ 4 }
+            × ComesBack self.old.row.id p.world attaches (frame_when comes_back self.old.taken.value) back }
+        requires out { length out.old.items + most_lines (frame_when comes_back self.old.taken.value) ≤ 4 }
         ensures does { (p : Past) → Stands D.told self.old p
             → (attaches : Bool) (back : Option ℕ)
-            → ComesBack self.old.row.id p.world attaches (frame_when comes_back self.old.taken) back
+            → ComesBack self.old.row.id p.world attaches (frame_when comes_back self.old.taken.value) back
             → DoesFrom (LeadsWith self.old.row moment attaches back) (BreaksWith moment back) NeverOverfills
             D.told self.old self.new (lines_in out.old.items) (lines_in out.new.items) p result }
         ensures works { WorksOn D.told self.new result }
-        ensures ahead { (fault : HighFault) → high.task_at self.old.high (frame_when comes_back self.old.taken)
+        ensures ahead { (fault : HighFault) → high.task_at self.old.high (frame_when comes_back self.old.taken.value)
             ≡ Refuse fault
             → (lines_in out.new.items ≡ lines_in out.old.items) × (bare_of self.new ≡ bare_of self.old) }
         ensures goes { is_some (high.hand_of self.new.high) ≡ true → goes_on_by self.old ≡ true }
         ensures serve { DisksServe D.told self.old self.new result }
         ensures low { LeavesAlone roles.Low self.old self.new }
-        ensures high { frame_when comes_back self.old.taken ≡ None → LeavesAlone roles.High self.old self.new }
+        ensures high { frame_when comes_back self.old.taken.value ≡ None → LeavesAlone roles.High self.old self.new }
         ensures recv { LeavesAlone roles.Recv self.old self.new }
-        ensures out { length out.new.items ≤ length out.old.items + most_lines (frame_when comes_back self.old.taken) }
+        ensures out { length out.new.items ≤ length out.old.items
+            + most_lines (frame_when comes_back self.old.taken.value) }
         ensures row { self.new.row ≡ self.old.row }
         ensures moment { self.new.moment ≡ moment }
     {
@@ -179,8 +195,8 @@ impl<D: Disk> Parts<D> {
         ensures low { LeavesAlone roles.Low self.old self.new }
         ensures recv { LeavesAlone roles.Recv self.old self.new }
     {
-        self.taken.kind = Kind::Taken;
-        self.taken.number = self.number_back(back);
+        let number = self.number_back(back);
+        self.number_frame(Kind::Taken, number);
         self.look_with(moment, true, out)
     }
 
@@ -207,8 +223,7 @@ impl<D: Disk> Parts<D> {
             },
             out,
         );
-        self.taken.kind = Kind::Attach;
-        self.taken.number = count;
+        self.number_frame(Kind::Attach, count);
         self.look_with(moment, true, out)
     }
 }

@@ -47,6 +47,7 @@ struct Memory {
     ends: PlainEnds,
     sent: HeapCircularBuffer<Item>,
     returned: HeapCircularBuffer<u64>,
+    taken: Box<Frame>,
 }
 
 fn reserve(alloc: Global, row: &SessionRow) -> Result<Memory, OutOfMemory>
@@ -56,12 +57,20 @@ fn reserve(alloc: Global, row: &SessionRow) -> Result<Memory, OutOfMemory>
     ensures shape { IfOk result (λ memory. shape_of memory.ends ≡ shape_of_row row.now) }
     ensures sent { IfOk result (λ memory. memory.sent ≡ buffer [] 64) }
     ensures returned { IfOk result (λ memory. memory.returned ≡ buffer [] 64) }
+    ensures taken { IfOk result (λ memory. memory.taken.value.session ≡ row.now.id) }
 {
+    let taken = Frame {
+        kind: Kind::Taken,
+        session: row.id,
+        number: 0,
+        payload: Payload::default(),
+    };
     Ok(Memory {
         connection: Connection::new(alloc)?,
         ends: PlainEnds::new(alloc, row)?,
         sent: HeapCircularBuffer::with_capacity(alloc, PACKETS)?,
         returned: HeapCircularBuffer::with_capacity(alloc, PACKETS)?,
+        taken: Box::new(alloc, taken)?,
     })
 }
 
@@ -154,6 +163,7 @@ impl<D: Disk> Parts<D> {
         requires connection { memory.connection ≡ unused }
         requires sent { memory.sent ≡ buffer [] 64 }
         requires returned { memory.returned ≡ buffer [] 64 }
+        requires taken { memory.taken.value.session ≡ row.now.id }
         requires pump { PumpOpens D.told row.now (D.told.reading (low_disk pump.low))
             (D.told.reading (high_disk pump.high))
             pump memory.ends }
@@ -180,12 +190,7 @@ impl<D: Disk> Parts<D> {
             receiver,
             sent: memory.sent,
             returned: memory.returned,
-            taken: Frame {
-                kind: Kind::Taken,
-                session: row.id,
-                number: 0,
-                payload: Payload::default(),
-            },
+            taken: memory.taken,
             moment: 0,
         }
     }

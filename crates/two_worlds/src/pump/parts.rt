@@ -26,8 +26,8 @@ pub struct Parts<D> {
     /// The numbers of the TAKEN that were sent last, at most 64.
     pub returned: HeapCircularBuffer<u64>,
     /// The TAKEN or the ATTACH that comes back, whose kind and number are set each time: a frame has
-    /// more than 1 KB, so one serves the session.
-    pub taken: Frame,
+    /// more than 1 KB, so one serves the session, on the heap.
+    pub taken: Box<Frame>,
     /// The moment of the last line that had one.
     pub moment: u64,
 }

@@ -4,7 +4,7 @@ use Rattle.std.proofs.Props.{props}
 use Rattle.disk_model.specs.declared.name.Role.TheVariants as roles
 use Rattle.pump_frame.specs.Rows.{first_bad}
 use Rattle.two_worlds.specs.declared.pump.state.BareDisks.{BareDisks}
-use Rattle.world_laws.specs.Disks.{Opens, CrashesOpen, LeaveWorld, OpenAgain}
+use Rattle.world_laws.specs.Disks.{DisksOpen, CrashesOpen, LeaveWorld, OpenAgain}
 use Rattle.two_worlds.specs.Pumps.{row_of, disk_at}
 use Rattle.two_worlds.proofs.Disks.LeavesWorld.{pump_leaves, opens_again}
 use Rattle.two_worlds.proofs.Disks.OpensSurely.{crashes_surely_open, readings_surely_open}
@@ -41,5 +41,5 @@ returns-clause-read g c =
     let m = g.D.Disk.told in
     let s = c.args.self in
     let lawful = none_bad (first_bad (row_of s)) (∥∥₁_map s.keeps (λ k. k.row)) in
-    subst (λ (d : BareDisks _). m.tells → Opens (row_of s) (m.reading d.low) (m.reading d.high) (m.reading d.recv)) (sym c.into_disks-disks.ensures)
+    subst (λ (d : BareDisks _). m.tells → DisksOpen (row_of s) (m.reading d.low) (m.reading d.high) (m.reading d.recv)) (sym c.into_disks-disks.ensures)
     (readings_surely_open m (row_of s) (short_messages (row_of s) lawful) (disk_at roles.Low s) (disk_at roles.High s) (disk_at roles.Recv s) (λ told. ∥∥₁_elim s.keeps (hlevel props) (λ k. k.hold told)))

@@ -1,4 +1,4 @@
-use Rattle.std.proofs.Common.{ℕ, Option, refl, sym, ap, ◌∙◌, subst, arith}
+use Rattle.std.proofs.Common.{ℕ, Option, sym, ap, ◌∙◌, subst, arith}
 use Rattle.pump_frame.specs.declared.frame.Item.{Item}
 use Rattle.pump_core.specs.History.{first_life}
 use Rattle.pump_core.specs.Passage.{new_low, new_high}
@@ -51,5 +51,5 @@ returns-clause-opened g c =
       published = c.open-2.ensures.published;
       high_last = c.open-2.ensures.last;
       high_up = c.open-2.ensures.up;
-      packets = record { sent = ap (λ b. b.capacity) c.requires.sent; returned = ap (λ b. b.capacity) c.requires.returned; taken = refl };
+      packets = record { sent = ap (λ b. b.capacity) c.requires.sent; returned = ap (λ b. b.capacity) c.requires.returned; taken = c.requires.taken };
     }

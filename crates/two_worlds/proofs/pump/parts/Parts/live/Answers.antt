@@ -44,4 +44,4 @@ returns-in-Ok-clause-message g c = λ told p s.
     let l = c.requires.live in
     message_is (low_row d.low_store) p.world _ c.slot.new.into c.args.n c.in-Ok.field-0 (let b = row_message d.row s.row in let f = ap (λ (r : SessionRow). r.message) row in omega (arith, b, f))
     (let r = s.world.removed in omega (arith, r, l.0)) (let a = s.world.accepted in omega (arith, a, l.1))
-    (low_fits m d p told s row) (e.length told) (λ fits. e.stands fits told)
+    (low_fits m d p told s row) (e.read.is told) (λ fits. e.read.stands fits told)

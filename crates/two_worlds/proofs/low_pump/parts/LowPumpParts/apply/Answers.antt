@@ -3,9 +3,9 @@ use Rattle.std.specs.Prelude.{◌==◌}
 use Rattle.std.proofs.lemmas.Bool.{and_parts, eqb-true}
 use Rattle.script_reader.specs.Heads.{act_with, line_with}
 use Rattle.script_reader.specs.declared.line.Line.{Line}
-use Rattle.two_worlds.specs.LowParts.{EndsLine}
+use Rattle.two_worlds.specs.LowPumpParts.{EndsLine}
 use Rattle.two_worlds.specs.Printing.{lines_in}
-use Rattle.two_worlds.proofs.low_pump.parts.LowParts.apply.Goals as goal
+use Rattle.two_worlds.proofs.low_pump.parts.LowPumpParts.apply.Goals as goal
 
 pub returns-in-At-clause-ends : goal.returns-in-At-clause-ends
 returns-in-At-clause-ends c =

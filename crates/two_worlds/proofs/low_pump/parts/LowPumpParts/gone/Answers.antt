@@ -1,6 +1,6 @@
 use Rattle.two_worlds.proofs.Told.Lines.{gone_stands, gone_ends}
 use Rattle.two_worlds.specs.Printing.{lines_in}
-use Rattle.two_worlds.proofs.low_pump.parts.LowParts.gone.Goals as goal
+use Rattle.two_worlds.proofs.low_pump.parts.LowPumpParts.gone.Goals as goal
 
 pub look_gone-requires-clause-stands : goal.look_gone-requires-clause-stands
 look_gone-requires-clause-stands c = gone_stands c.args.self.now c.lose.new.self c.lose.ensures c.requires.stands

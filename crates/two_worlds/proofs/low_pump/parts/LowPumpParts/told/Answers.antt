@@ -1,7 +1,7 @@
 use Rattle.script_reader.specs.Heads.{arriving_with}
 use Rattle.two_worlds.proofs.Told.Lines.{told_stands, told_ends}
 use Rattle.two_worlds.specs.Printing.{lines_in}
-use Rattle.two_worlds.proofs.low_pump.parts.LowParts.told.Goals as goal
+use Rattle.two_worlds.proofs.low_pump.parts.LowPumpParts.told.Goals as goal
 
 pub look_first-requires-clause-stands : goal.look_first-requires-clause-stands
 look_first-requires-clause-stands c =

@@ -28,14 +28,14 @@ use Rattle.script_reader.specs.Alone.{IsRefusedAlone, StepAlone}
 use Rattle.two_worlds.specs.Connections.{waits_of, is_broken_of, reading_of}
 use Rattle.two_worlds.specs.declared.applied.Stop.{Stop}
 use Rattle.two_worlds.specs.declared.applied.Stop.TheVariants as stops
-use Rattle.two_worlds.specs.declared.low_pump.parts.LowParts.{LowParts}
+use Rattle.two_worlds.specs.declared.low_pump.parts.LowPumpParts.{LowPumpParts}
 
 -- the disk under the store
-abbrev pub disk_of : LowParts → Plain
+abbrev pub disk_of : LowPumpParts → Plain
 disk_of c = low_disk c.store
 
 -- the parts stand for what the low side has been through
-pub record PartsStand (c : LowParts) (p : PastAlone) : Type 0 where
+pub record PartsStand (c : LowPumpParts) (p : PastAlone) : Type 0 where
   pub row : IsLawfulRow c.row
   pub history : low.StandsFor c.process p.history
   pub waits : waits_of c.connection ≡ p.waits
@@ -50,7 +50,7 @@ pub record PartsStand (c : LowParts) (p : PastAlone) : Type 0 where
   -- the disk has room for all that its format needs
   pub room : low_size c.row ≤ (disk_of c).room
 
-abbrev pub StandsForSome : LowParts → Type 0
+abbrev pub StandsForSome : LowPumpParts → Type 0
 StandsForSome c = (p : PastAlone) × PartsStand c p
 
 -- the store with a disk of which the next call fails
@@ -95,7 +95,7 @@ AnsweredBy row told p q Average l = Finishes p q (answers.Average (told_of_read 
 -- A part of a line of which `Does` says what it leads to, where the disk failed in it or not. Where
 -- `Bars` has it, it could not be done.
 module _ (Bars : Type 0) (Does : Bool → PastAlone → List Event → Type 0) where
-  abbrev pub EndsBy : LowParts → LowParts → List Event → Option Stop → Type 0
+  abbrev pub EndsBy : LowPumpParts → LowPumpParts → List Event → Option Stop → Type 0
   EndsBy c d printed None = (q : PastAlone) × Does false q printed × PartsStand d q
   EndsBy c d printed (Some stops.Line) = Bars × (printed ≡ []) × (d ≡ c)
   EndsBy c d printed (Some (stops.Device roles.Low faults)) =
@@ -106,13 +106,13 @@ module _ (Bars : Type 0) (Does : Bool → PastAlone → List Event → Type 0) w
   EndsBy c d printed (Some (stops.Disk role why)) = ⊥
 
 -- so for every past that the parts stood for
-abbrev pub Ends : LowParts → LowParts → (PastAlone → Type 0) → (PastAlone → Bool → PastAlone → List Event → Type 0)
-    → List Event → Option Stop → Type 0
+abbrev pub Ends : LowPumpParts → LowPumpParts → (PastAlone → Type 0)
+    → (PastAlone → Bool → PastAlone → List Event → Type 0) → List Event → Option Stop → Type 0
 Ends c d Bars Does printed stop =
     (p : PastAlone) → PartsStand c p → EndsBy (Bars p) (Does p) c d printed stop
 
 -- so a line ends
-abbrev pub EndsLine : LowParts → LowParts → Line → List Event → Option Stop → Type 0
+abbrev pub EndsLine : LowPumpParts → LowPumpParts → Line → List Event → Option Stop → Type 0
 EndsLine c d line printed stop = Ends c d (λ p. IsRefusedAlone c.row p line)
     (λ p is_fault q printed. (is_apt_alone c.row p line ≡ true) × StepAlone c.row p line is_fault q printed) printed
     stop

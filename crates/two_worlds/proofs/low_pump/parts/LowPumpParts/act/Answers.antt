@@ -2,10 +2,10 @@ use Rattle.script_reader.specs.Heads.{arriving_with, act_with}
 use Rattle.std.proofs.Common.{◌≡◌, ap, true, subst, sym, ◌∙◌}
 use Rattle.script_reader.specs.declared.line.Line.{Line}
 use Rattle.script_reader.specs.Alone.{is_apt_alone, IsRefusedAlone, StepAlone}
-use Rattle.two_worlds.specs.LowParts.{EndsBy}
+use Rattle.two_worlds.specs.LowPumpParts.{EndsBy}
 use Rattle.two_worlds.proofs.Told.Lines.{applies_told, applies_gone, on_time, on_time_and}
 use Rattle.two_worlds.specs.Printing.{lines_in}
-use Rattle.two_worlds.proofs.low_pump.parts.LowParts.act.Goals as goal
+use Rattle.two_worlds.proofs.low_pump.parts.LowPumpParts.act.Goals as goal
 
 pub returns-in-Told-clause-ends : goal.returns-in-Told-clause-ends
 returns-in-Told-clause-ends c = λ p was.

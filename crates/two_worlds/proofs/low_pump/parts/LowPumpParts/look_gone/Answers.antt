@@ -6,12 +6,12 @@ use Rattle.std.specs.Result.{result_err}
 use Rattle.script_reader.specs.declared.event.EventHead.{EventHead}
 use Rattle.low_process.specs.Heads.{ask_with, look_with}
 use Rattle.pump_frame.specs.declared.row.SessionRow.{SessionRow}
-use Rattle.two_worlds.specs.declared.low_pump.parts.LowParts.{LowParts}
+use Rattle.two_worlds.specs.declared.low_pump.parts.LowPumpParts.{LowPumpParts}
 use Rattle.two_worlds.specs.Printing.{lines_in, look_prints}
-use Rattle.two_worlds.specs.LowParts.{AnsweredBy}
+use Rattle.two_worlds.specs.LowPumpParts.{AnsweredBy}
 use Rattle.two_worlds.proofs.Told.Ready.{is_between, row_lawful, in_order, has_store}
 use Rattle.two_worlds.proofs.Told.Ends.{gone_ends}
-use Rattle.two_worlds.proofs.low_pump.parts.LowParts.look_gone.Goals as goal
+use Rattle.two_worlds.proofs.low_pump.parts.LowPumpParts.look_gone.Goals as goal
 
 pub begin_into-ask-requires-clause-between : goal.begin_into-ask-requires-clause-between
 begin_into-ask-requires-clause-between c = is_between c.args.self.now c.requires.stands
@@ -33,7 +33,7 @@ returns-clause-ends c = λ p was.
     let mid = c.begin_into-ask.new.self in
     let row = row_of c.args.self.now.process in
     let answered = subst (λ (r : SessionRow). AnsweredBy c.args.self.now.row Quiet mid c.answer.new.self.process (ask_with r mid c.begin_into-ask.new.head c.begin_into-ask.result) (look_with r c.answer.new.head)) b.row c.answer.ensures.answered in
-    let kept = ap (λ (t : LowParts). t.row) c.answer.ensures.rest ∙ sym was.of_row in
+    let kept = ap (λ (t : LowPumpParts). t.row) c.answer.ensures.rest ∙ sym was.of_row in
     let printed = lines_in c.end_look.new.out.items in
     let from_none = g.prints ∙ ap (λ (l : List EventHead). lines_in l ++ look_prints e.row.id c.args.moment (look_with e.row c.answer.new.head)) c.requires.out in
     let prints = subst (λ (r : SessionRow). printed ≡ look_prints e.row.id c.args.moment (look_with r c.answer.new.head)) kept from_none in

@@ -32,8 +32,8 @@ use Rattle.chain_replay.specs.Opened.{Shelved}
 use Rattle.chain_replay.specs.Private.{AreOf, FailsIn, HasRead, LineGoes, lent}
 use Rattle.chain_replay.specs.Replays.{IsKept, Replayed, IsFinished, EndsWith}
 use Rattle.chain_replay.specs.Scripts.{NoPump, LeadTo, BothPumps}
-use Rattle.chain_replay.specs.declared.applying.Outcome.{Outcome}
-use Rattle.chain_replay.specs.declared.applying.Outcome.TheVariants as outcomes
+use Rattle.chain_replay.specs.declared.applying.ChainOutcome.{ChainOutcome}
+use Rattle.chain_replay.specs.declared.applying.ChainOutcome.TheVariants as outcomes
 use Rattle.chain_replay.proofs.Failed.{named_since}
 use Rattle.chain_replay.proofs.Parts.{their_own, are_sound}
 use Rattle.chain_replay.proofs.Reading.{so_far_more, halted_line}
@@ -204,7 +204,7 @@ module _ {D : Type 0} {g : Ghosts D} (m : Meaning D) (start chain : Chain D g) (
           })) c
 
       -- .. or could not be
-      pub unwritten_by : (printed : List Event) (outcome : Outcome) → LineGoes m first d line before_line chain printed outcome → AppendsPrefix mid new (held ++ text printed) → EndsChain shelf all left old new was now ended.Write
+      pub unwritten_by : (printed : List Event) (outcome : ChainOutcome) → LineGoes m first d line before_line chain printed outcome → AppendsPrefix mid new (held ++ text printed) → EndsChain shelf all left old new was now ended.Write
       unwritten_by printed outcomes.Applied (e, leads, stands) p = (
           let so_far = so_far_more o all reading after before left (BothPumps one two d) events h line n few (BothPumps one two e) printed (e, leads, refl) in (
             record {

@@ -38,8 +38,8 @@ use Rattle.two_worlds.specs.Pumps.{disk_at, row_of}
 use Rattle.chain_replay.specs.Faults.{chain_fault, IsHalted, NamesWhatFailed}
 use Rattle.chain_replay.specs.Private.{outcome_by, AllRiseAt, AreOutAt, AreBackAt, HasFailedAt, HasFailed, FailsIn, IsDevice, IsDeviceEnd}
 use Rattle.chain_replay.specs.Scripts.{Begun}
-use Rattle.chain_replay.specs.declared.applying.Outcome.{Outcome}
-use Rattle.chain_replay.specs.declared.applying.Outcome.TheVariants as outcomes
+use Rattle.chain_replay.specs.declared.applying.ChainOutcome.{ChainOutcome}
+use Rattle.chain_replay.specs.declared.applying.ChainOutcome.TheVariants as outcomes
 
 -- ---- the disks come back ----
 
@@ -170,7 +170,7 @@ module _ {D : Type 0} {g : Ghosts D} (m : Meaning D) where
   by_stop s t first line (Some (stops.Full end length size)) fault counts is device = absurd (subst IsDevice (stopped_is _ fault is) device)
   by_stop s t first line (Some (stops.Disk role why)) fault counts is device = absurd (subst IsDevice (stopped_is _ fault is) device)
 
-  pub line_failed : (s t : Chain D g) (first : ℕ) (line : Line) (stop : Option Stop) (outcome : Outcome) → outcome ≡ outcome_by first line stop → IsCounted m s t line stop → (fault : Fault) → outcome ≡ outcomes.Stopped fault → IsDevice fault → HasFailed m s t
+  pub line_failed : (s t : Chain D g) (first : ℕ) (line : Line) (stop : Option Stop) (outcome : ChainOutcome) → outcome ≡ outcome_by first line stop → IsCounted m s t line stop → (fault : Fault) → outcome ≡ outcomes.Stopped fault → IsDevice fault → HasFailed m s t
   line_failed s t first line stop outcome is counts fault e device = by_stop s t first line stop fault counts (sym is ∙ e) device
 
   by_trio : (p q : Pump D g) → ((role : Role) → m.count (disk_at role p) ≤ m.count (disk_at role q)) → (role : Role) → m.count (disk_in role (trio_of p)) ≤ m.count (disk_in role (trio_of q))

@@ -1,15 +1,17 @@
 -- The disks of two sessions come off a shelf and back on it.
-use Rattle.std.proofs.Common.{◌≡◌, ◌∙◌, ℕ, inl, inr, Option, None, Some, sym, ap, subst}
+use Rattle.std.proofs.Common.{◌≡◌, ◌∙◌, ℕ, inl, inr, Option, None, Some, refl, sym, ap, subst}
 use Rattle.std.proofs.lemmas.Bool.{cases_eq}
 use Rattle.disk_model.specs.Disk.{Meaning}
 use Rattle.disk_model.specs.declared.name.Role.{Role}
 use Rattle.disk_model.specs.declared.name.Role.TheVariants as roles
 use Rattle.disk_model.specs.Shelf.{Holdings, OnShelf, IsOut}
 use Rattle.disk_model.specs.declared.shelf.ShelfFault.{ShelfFault}
-use Rattle.disk_model.specs.declared.shelf.ShelfFault.TheVariants.{Failed}
+use Rattle.disk_model.specs.declared.shelf.ShelfFault.TheVariants.{Failed, Memory}
 use Rattle.pump_chain.specs.Opening.{disk_in}
+use Rattle.pump_frame.specs.Counts.{Rose}
 use Rattle.recovery.specs.declared.trio.Trio.{Trio}
 use Rattle.script_reader.specs.declared.fault.Fault.{Fault}
+use Rattle.script_reader.specs.declared.fault.Fault.TheVariants as faults
 use Rattle.script_replay.specs.Failing.{IsNotGiven}
 use Rattle.script_replay.specs.Lending.{AreOnShelf}
 use Rattle.script_replay.specs.Shelves.{Places, disk_name, reading_in, LeavesOtherSessions, AllAreBack, ReadsAlike}
@@ -54,9 +56,14 @@ not_given_there h before now one two apart role others n = record {
 
 -- the disk that was not given is the one that is named
 pub untaken_named : {S : Type 0} (h : Holdings S) (before : Places) (session : ℕ) (fault : Option Fault) (what : ShelfFault) (named : Role) → (what ≡ Failed → IsNotGiven h before session named)
-    → IsUntakenAt (λ id role. (what ≡ Failed) × (role ≡ named)) session fault → IsUntakenAt (IsNotGiven h before) session fault
-untaken_named h before session None what named asked u = tt
-untaken_named h before session (Some fault) what named asked (role, is, n) = (role, is, subst (λ (r : Role). IsNotGiven h before session r) (sym n.1) (asked n.0))
+    → (what ≡ Memory → fault ≡ None) → (what ≡ Failed → fault ≡ Some (faults.Device session named)) → IsUntakenAt (IsNotGiven h before) session fault
+untaken_named h before session fault Memory named asked memory failed = subst (λ (f : Option Fault). IsUntakenAt (IsNotGiven h before) session f) (sym (memory refl)) tt
+untaken_named h before session fault Failed named asked memory failed = subst (λ (f : Option Fault). IsUntakenAt (IsNotGiven h before) session f) (sym (failed refl)) (named, refl, asked refl)
+
+-- a fault comes only where the shelf failed
+pub untaken_rose : (first last : ℕ) (fault : Option Fault) (what : ShelfFault) → (what ≡ Memory → fault ≡ None) → (what ≡ Failed → Rose first last) → (f : Fault) → fault ≡ Some f → Rose first last
+untaken_rose first last fault Memory memory rose f is = (let e = sym (memory refl) ∙ is in absurd (cc))
+untaken_rose first last fault Failed memory rose f is = rose refl
 
 pub untaken_first : (fails : ℕ → Role → Type 0) (one two : ℕ) (fault : Option Fault) → IsUntakenAt fails one fault → IsUntaken fails one two fault
 untaken_first fails one two None h = tt

@@ -14,8 +14,8 @@ use Rattle.two_worlds.specs.declared.applied.Stop.TheVariants as stops
 use Rattle.two_worlds.specs.LowPumps.{stops_at_disk}
 use Rattle.chain_replay.specs.Faults.{broken_in}
 use Rattle.chain_replay.specs.Private.{outcome_by, FailsIn, LineGoes, LineDoes}
-use Rattle.chain_replay.specs.declared.applying.Outcome.{Outcome}
-use Rattle.chain_replay.specs.declared.applying.Outcome.TheVariants as outcomes
+use Rattle.chain_replay.specs.declared.applying.ChainOutcome.{ChainOutcome}
+use Rattle.chain_replay.specs.declared.applying.ChainOutcome.TheVariants as outcomes
 use Rattle.chain_replay.proofs.Broken.{broken_names}
 
 module _ {D : Type 0} {g : Ghosts D} (m : Meaning D) (s t : Chain D g) (first : ℕ) (line : Line) (c : Chained) (printed : List Event) where
@@ -40,7 +40,7 @@ module _ {D : Type 0} {g : Ghosts D} (m : Meaning D) (s t : Chain D g) (first : 
   line_does_by held later old new w (Some (stops.Full end length size)) h = (printed, line_goes (Some (stops.Full end length size)) h, w)
   line_does_by held later old new w (Some (stops.Disk role why)) h = absurd h
 
-  pub line_does : (held later : List ℕ) (old new : Option (List ℕ)) → Gathers held later old new (text printed) → (stop : Option Stop) → ChainApplies m s t line c printed stop → (outcome : Outcome) → outcome ≡ outcome_by first line stop
+  pub line_does : (held later : List ℕ) (old new : Option (List ℕ)) → Gathers held later old new (text printed) → (stop : Option Stop) → ChainApplies m s t line c printed stop → (outcome : ChainOutcome) → outcome ≡ outcome_by first line stop
       → LineDoes m first c line s t held later old new outcome
   line_does held later old new w stop h outcome is = subst (λ o. LineDoes m first c line s t held later old new o) (sym is) (line_does_by held later old new w stop h)
 
@@ -52,7 +52,7 @@ up_by first line (Some (stops.Full end length size)) e = refl
 up_by first line (Some (stops.Disk role why)) e = cc e
 
 -- a line that is applied stops at no disk
-pub still_up : (first : ℕ) (line : Line) (stop : Option Stop) (outcome : Outcome) (down : Bool) → outcome ≡ outcome_by first line stop → down ≡ stops_at_disk stop → outcome ≡ outcomes.Applied → down ≡ false
+pub still_up : (first : ℕ) (line : Line) (stop : Option Stop) (outcome : ChainOutcome) (down : Bool) → outcome ≡ outcome_by first line stop → down ≡ stops_at_disk stop → outcome ≡ outcomes.Applied → down ≡ false
 still_up first line stop outcome down is at e = at ∙ up_by first line stop (sym is ∙ e)
 
 never_by : (first : ℕ) (line : Line) (stop : Option Stop) → outcome_by first line stop ≡ outcomes.Unwritten → ⊥
@@ -62,5 +62,5 @@ never_by first line (Some (stops.Device role count)) e = cc e
 never_by first line (Some (stops.Full end length size)) e = cc e
 never_by first line (Some (stops.Disk role why)) e = cc e
 
-pub never_unwritten : (first : ℕ) (line : Line) (stop : Option Stop) (outcome : Outcome) → outcome ≡ outcome_by first line stop → outcome ≡ outcomes.Unwritten → ⊥
+pub never_unwritten : (first : ℕ) (line : Line) (stop : Option Stop) (outcome : ChainOutcome) → outcome ≡ outcome_by first line stop → outcome ≡ outcomes.Unwritten → ⊥
 never_unwritten first line stop outcome is e = never_by first line stop (sym is ∙ e)

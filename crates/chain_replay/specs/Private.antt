@@ -35,19 +35,19 @@ use Rattle.chain_replay.specs.Faults.{IsHalted, ChainStops, NamesWhatFailed, ses
 use Rattle.chain_replay.specs.Opened.{Shelved, NamesFailed}
 use Rattle.chain_replay.specs.Replays.{IsSoFar}
 use Rattle.chain_replay.specs.Scripts.{Begun, Refuses, LacksPump, AreLinked}
-use Rattle.chain_replay.specs.declared.rows.Opens.{Opens}
-use Rattle.chain_replay.specs.declared.rows.Opens.TheVariants as opens
+use Rattle.chain_replay.specs.declared.rows.FirstLine.{FirstLine}
+use Rattle.chain_replay.specs.declared.rows.FirstLine.TheVariants as opens
 use Rattle.script_replay.specs.declared.ended.Ended.{Ended}
 use Rattle.script_replay.specs.declared.ended.Ended.TheVariants as ended
 use Rattle.two_worlds.specs.declared.applied.Stop.{Stop}
 use Rattle.two_worlds.specs.declared.applied.Stop.TheVariants as stops
-use Rattle.chain_replay.specs.declared.applying.Outcome.{Outcome}
-use Rattle.chain_replay.specs.declared.applying.Outcome.TheVariants as outcomes
+use Rattle.chain_replay.specs.declared.applying.ChainOutcome.{ChainOutcome}
+use Rattle.chain_replay.specs.declared.applying.ChainOutcome.TheVariants as outcomes
 
 -- ---- the two session lines ----
 
 -- what a line is to a script that is to begin a pump
-abbrev pub IsOpens : Line → Opens → Type 0
+abbrev pub IsOpens : Line → FirstLine → Type 0
 IsOpens line opens.Nothing = line ≡ Skip
 IsOpens line (opens.Pump row) = (line ≡ Session row) × IsLawfulRow row
 IsOpens line opens.Wrongly = (begun : Begun) → LacksPump begun → Refuses begun line
@@ -145,7 +145,7 @@ abbrev pub AreOf : SessionRow → SessionRow → Chained → Type 0
 AreOf one two c = (c.first.row.id ≡ one.id) × (c.second.row.id ≡ two.id)
 
 -- what becomes of a line by why it stops the chain, if it does
-abbrev pub outcome_by : ℕ → Line → Option Stop → Outcome
+abbrev pub outcome_by : ℕ → Line → Option Stop → ChainOutcome
 outcome_by first line None = outcomes.Applied
 outcome_by first line (Some stops.Line) = outcomes.Refused
 outcome_by first line (Some (stops.Device role count)) = outcomes.Stopped (faults.Device (broken_in first line role)
@@ -174,13 +174,13 @@ abbrev pub IsDeviceEnd : Ended → Type 0
 IsDeviceEnd (ended.Stopped fault) = IsDevice fault
 IsDeviceEnd end = ⊥
 
-abbrev pub IsByLine : Outcome → Type 0
+abbrev pub IsByLine : ChainOutcome → Type 0
 IsByLine (outcomes.Stopped fault) = IsLineFault fault
 IsByLine outcome = Unit {0}
 
 -- a line that prints this leads on, can't be applied, or stops the chain, which it left as t
 abbrev pub LineGoes : {D : Type 0} {g : _} → Meaning D → ℕ → Chained → Line → Chain D g → Chain D g → List Event
-    → Outcome → Type 0
+    → ChainOutcome → Type 0
 LineGoes m first c line s t printed outcomes.Applied = (d : Chained) × ChainLeads c line d printed × ChainStands m t d
 LineGoes m first c line s t printed outcomes.Refused = ChainRefuses c line × (printed ≡ []) × ChainStands m t c
 LineGoes m first c line s t printed (outcomes.Stopped fault) = (d : Chained) × ChainStops first c line d printed fault
@@ -191,9 +191,9 @@ LineGoes m first c line s t printed outcomes.Unwritten = ⊥
 -- so, and what it prints was added to what is held; or a prefix of what was held and of what it prints was written
 abbrev pub LineDoes : {D : Type 0} {g : _} → Meaning D → ℕ → Chained → Line → Chain D g → Chain D g
     → (held later : List ℕ)
-    → (old new : Option (List ℕ)) → Outcome → Type 0
+    → (old new : Option (List ℕ)) → ChainOutcome → Type 0
 LineDoes m first c line s t held later old new outcomes.Unwritten =
-    (printed : List Event) × (outcome : Outcome) × LineGoes m first c line s t printed outcome
+    (printed : List Event) × (outcome : ChainOutcome) × LineGoes m first c line s t printed outcome
     × AppendsPrefix old new (held ++ text printed)
 LineDoes m first c line s t held later old new outcome = (printed : List Event)
     × LineGoes m first c line s t printed outcome × Gathers held later old new (text printed)

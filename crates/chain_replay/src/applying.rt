@@ -21,7 +21,7 @@ use two_worlds::Stop;
 
 /// What became of a line of a chain.
 #[derive(Clone, Copy)]
-pub enum Outcome {
+pub enum ChainOutcome {
     Applied,
     Refused,
     /// It stops the script with this fault.
@@ -57,25 +57,25 @@ fn session_or(first: u32, line: &LineHead) -> u32
 }
 
 // What becomes of a line by why it stops the chain, if it does.
-fn outcome_of(first: u32, line: &LineHead, stop: &Option<Stop>) -> Outcome
+fn outcome_of(first: u32, line: &LineHead, stop: &Option<Stop>) -> ChainOutcome
     ensures is { (bytes : List ℕ) → result ≡ outcome_by first (line_with bytes line.now) stop.now }
     ensures line { IsByLine result }
 {
     match stop {
-        None => Outcome::Applied,
-        Some(Stop::Line) => Outcome::Refused,
-        Some(Stop::Device { role, .. }) => Outcome::Stopped(Fault::Device {
+        None => ChainOutcome::Applied,
+        Some(Stop::Line) => ChainOutcome::Refused,
+        Some(Stop::Device { role, .. }) => ChainOutcome::Stopped(Fault::Device {
             session: session_at(first, line, *role),
             role: *role,
         }),
-        Some(Stop::Full { end, length, size }) => Outcome::Stopped(Fault::Full {
+        Some(Stop::Full { end, length, size }) => ChainOutcome::Stopped(Fault::Full {
             session: session_or(first, line),
             end: *end,
             length: *length,
             size: *size,
         }),
         Some(Stop::Disk { role, why }) => {
-            Outcome::Stopped(refusal_of(session_or(first, line), *role, why))
+            ChainOutcome::Stopped(refusal_of(session_or(first, line), *role, why))
         }
     }
 }
@@ -89,7 +89,7 @@ pub fn apply_line<D: Disk, O: Sink>(
     events: &mut ArrayVec<EventHead, 4>,
     output: &mut Output,
     out: &mut O,
-) -> Outcome
+) -> ChainOutcome
     requires lawful { IsLawfulLine (line_with body.now line.now) }
     requires room { CanHoldLine line.now body.now }
     requires up { chain_is_down chain.old ≡ false }
@@ -97,16 +97,16 @@ pub fn apply_line<D: Disk, O: Sink>(
         → LineDoes D.told first c (line_with body.now line.now) chain.old chain.new (held_of output.old)
         (held_of output.new) (O.written out.old) (O.written out.new) result }
     ensures line { IsByLine result }
-    ensures device { (fault : Fault) → result ≡ Outcome.Stopped fault → IsDevice fault
+    ensures device { (fault : Fault) → result ≡ ChainOutcome.Stopped fault → IsDevice fault
         → HasFailed D.told chain.old chain.new }
     ensures counts { FailNoLess D.told chain.old chain.new }
-    ensures up { result ≡ Outcome.Applied → chain_is_down chain.new ≡ false }
+    ensures up { result ≡ ChainOutcome.Applied → chain_is_down chain.new ≡ false }
     ensures later { O.faults out.old ≤ O.faults out.new }
-    ensures cause { result ≡ Outcome.Unwritten → Rose (O.faults out.old) (O.faults out.new) }
+    ensures cause { result ≡ ChainOutcome.Unwritten → Rose (O.faults out.old) (O.faults out.new) }
 {
     let stop = chain.apply_head(line, body.as_slice(), events);
     match output.print_all(events.as_slice(), out) {
         Ok(()) => outcome_of(first, line, &stop),
-        Err(_) => Outcome::Unwritten,
+        Err(_) => ChainOutcome::Unwritten,
     }
 }

@@ -7,26 +7,11 @@ ghost use Rattle.pump_frame.specs.Counts.{Rose};
 ghost use Rattle.script_replay.specs.Failing.{IsNotGiven};
 ghost use Rattle.script_replay.specs.Shelves.{AllAreBack, LeavesOtherSessions, ReadsAlike};
 
-use disk_model::{Shelf, ShelfFault};
+use disk_model::Shelf;
 use pump_chain::Six;
 use recovery::Trio;
 use script_reader::Fault;
-use script_replay::{NotTaken, put_disks_back, take_disks};
-
-// The fault of a disk that can't be taken; `None` where memory was wanting.
-fn untaken(session: u32, not_taken: NotTaken) -> Option<Fault>
-    ensures of { IsUntakenAt (λ id role. (not_taken.fault ≡ ShelfFault.Failed)
-        × (role ≡ not_taken.role)) session result }
-    ensures failed { (fault : _) → result ≡ Some fault → not_taken.fault ≡ ShelfFault.Failed }
-{
-    match not_taken.fault {
-        ShelfFault::Memory => None,
-        ShelfFault::Failed => Some(Fault::Device {
-            session,
-            role: not_taken.role,
-        }),
-    }
-}
+use script_replay::{put_disks_back, take_disks, untaken_fault};
 
 fn take_trio<S: Shelf>(shelf: &mut S, session: u32) -> Result<Trio<S::Disk>, Option<Fault>>
     ensures read { IfOk result (λ t. S.told.tells → AreReadAt S.Disk.told (S.told.disk shelf.old) session t) }
@@ -40,12 +25,8 @@ fn take_trio<S: Shelf>(shelf: &mut S, session: u32) -> Result<Trio<S::Disk>, Opt
         → Rose (S.told.disk_faults shelf.old) (S.told.disk_faults shelf.new)) }
 {
     match take_disks(shelf, session) {
-        Ok(disks) => Ok(Trio {
-            low: disks.low,
-            high: disks.high,
-            recv: disks.recv,
-        }),
-        Err(not_taken) => Err(untaken(session, not_taken)),
+        Ok(disks) => Ok(disks),
+        Err(not_taken) => Err(untaken_fault(session, not_taken)),
     }
 }
 

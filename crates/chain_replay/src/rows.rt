@@ -14,7 +14,7 @@ use script_reader::{Body, Fault, LineHead, LinedHead, Lines};
 
 /// What a line is to a script that is to begin a session.
 #[derive(Clone, Copy)]
-pub enum Opens {
+pub enum FirstLine {
     /// It is skipped.
     Nothing,
     /// It begins the session of this row.
@@ -23,16 +23,16 @@ pub enum Opens {
     Wrongly,
 }
 
-fn find_opens(line: &LineHead) -> Opens
+fn find_opens(line: &LineHead) -> FirstLine
     ensures { (bytes : List ℕ) → IsOpens (line_with bytes line.now) result }
 {
     match line {
-        LineHead::Skip => Opens::Nothing,
+        LineHead::Skip => FirstLine::Nothing,
         LineHead::Session(row) => match row.first_bad() {
-            None => Opens::Pump(*row),
-            Some(_) => Opens::Wrongly,
+            None => FirstLine::Pump(*row),
+            Some(_) => FirstLine::Wrongly,
         },
-        _ => Opens::Wrongly,
+        _ => FirstLine::Wrongly,
     }
 }
 
@@ -57,9 +57,9 @@ fn next_row<I: Source>(
     'turns: loop {
         match lines.next_head(script, body) {
             LinedHead::Line(line) => match find_opens(&line) {
-                Opens::Nothing => {}
-                Opens::Pump(row) => return Ok(row),
-                Opens::Wrongly => return Err(Fault::Script {
+                FirstLine::Nothing => {}
+                FirstLine::Pump(row) => return Ok(row),
+                FirstLine::Wrongly => return Err(Fault::Script {
                     line: lines.number(),
                 }),
             },

@@ -17,7 +17,7 @@ ghost use Rattle.script_replay.specs.Outputs.{held_of};
 ghost use Rattle.script_replay.specs.Runners.{Closes};
 ghost use Rattle.two_worlds.specs.Printing.{lines_in};
 
-use crate::applying::{Outcome, apply_line};
+use crate::applying::{ChainOutcome, apply_line};
 use crate::printing::stop_behind;
 use arrayvec::ArrayVec;
 use disk_model::Disk;
@@ -101,10 +101,10 @@ pub fn run<D: Disk, I: Source, O: Sink>(
         match lines.next_head(script, body) {
             LinedHead::Line(line) => {
                 match apply_line(chain, first, &line, body, &mut events, &mut output, out) {
-                    Outcome::Applied => {}
-                    Outcome::Refused => return refuse(lines.number(), &mut output, out),
-                    Outcome::Stopped(fault) => return stop_behind(fault, &mut output, out),
-                    Outcome::Unwritten => return Ended::Write,
+                    ChainOutcome::Applied => {}
+                    ChainOutcome::Refused => return refuse(lines.number(), &mut output, out),
+                    ChainOutcome::Stopped(fault) => return stop_behind(fault, &mut output, out),
+                    ChainOutcome::Unwritten => return Ended::Write,
                 }
             }
             LinedHead::Bad => return refuse(lines.number(), &mut output, out),

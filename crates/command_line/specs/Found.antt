@@ -63,6 +63,16 @@ Gives Audit name rows = name ≡ codes "audit"
 Gives Compare name rows = name ≡ codes "compare"
 Gives Chain name rows = name ≡ codes "chain"
 
+-- it looks at a link
+abbrev pub HasLooks : Command → Type 0
+HasLooks (Serve table session looks) = Unit {0}
+HasLooks (Receive table session looks) = Unit {0}
+HasLooks (Send table session looks) = Unit {0}
+HasLooks (Append table session looks) = Unit {0}
+HasLooks (DropFiles table session looks folder) = Unit {0}
+HasLooks (CollectFiles table session looks folder) = Unit {0}
+HasLooks other = ⊥
+
 abbrev pub GivesIn : Command → Option (List ℕ × List Row) → Type 0
 GivesIn command None = ⊥
 GivesIn command (Some found) = Gives command found.0 found.1

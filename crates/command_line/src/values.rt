@@ -5,7 +5,7 @@ ghost use Rattle.clap.specs.Walk.{rows_of, first_of};
 ghost use Rattle.command_line.specs.Commands.{IsCommand};
 ghost use Rattle.command_line.specs.TableNames.{is_table_name};
 ghost use Rattle.command_line.specs.TimeLists.{AreTimes, times_word};
-ghost use Rattle.command_line.specs.Found.{Gives};
+ghost use Rattle.command_line.specs.Found.{Gives, HasLooks};
 ghost use Rattle.command_line.specs.declared.command.Command.{Command as Commands};
 
 use crate::times::times_in;
@@ -178,20 +178,13 @@ fn migrate_in(matches: &ArgMatches) -> Option<Command>
     })
 }
 
-/// The command of this name, with the values that clap found.
-pub(crate) fn with_values(name: &str, matches: &ArgMatches) -> Option<Command>
+// The command of this name, if it is one that looks at a link.
+fn with_looks(name: &str, matches: &ArgMatches) -> Option<Command>
     ensures sound { IfSome result IsCommand }
-    ensures all { (c : Commands) → IsCommand c → Gives c name.now (rows_of (found_of matches.now)) → result ≡ Some c }
+    ensures all { (c : Commands) → IsCommand c → HasLooks c → Gives c name.now (rows_of (found_of matches.now))
+        → result ≡ Some c }
 {
     match name {
-        "replay" => Some(Command::Replay),
-        "audit" => Some(Command::Audit),
-        "chain" => Some(Command::Chain),
-        "compare" => Some(Command::Compare),
-        "format" => session_in(matches).map(|(table, session)| Command::Format { table, session }),
-        "show" => session_in(matches).map(|(table, session)| Command::Show { table, session }),
-        "exercise" => exercise_in(matches),
-        "race" => race_in(matches),
         "serve" => looks_in(matches).map(|(table, session, looks)| Command::Serve {
             table,
             session,
@@ -228,11 +221,29 @@ pub(crate) fn with_values(name: &str, matches: &ArgMatches) -> Option<Command>
                 folder,
             })
         }
+        _ => None,
+    }
+}
+
+/// The command of this name, with the values that clap found.
+pub(crate) fn with_values(name: &str, matches: &ArgMatches) -> Option<Command>
+    ensures sound { IfSome result IsCommand }
+    ensures all { (c : Commands) → IsCommand c → Gives c name.now (rows_of (found_of matches.now)) → result ≡ Some c }
+{
+    match name {
+        "replay" => Some(Command::Replay),
+        "audit" => Some(Command::Audit),
+        "chain" => Some(Command::Chain),
+        "compare" => Some(Command::Compare),
+        "format" => session_in(matches).map(|(table, session)| Command::Format { table, session }),
+        "show" => session_in(matches).map(|(table, session)| Command::Show { table, session }),
+        "exercise" => exercise_in(matches),
+        "race" => race_in(matches),
         "migrate" => migrate_in(matches),
         "wrap" => session_in(matches).map(|(table, session)| Command::Wrap { table, session }),
         "unwrap" => session_in(matches).map(|(table, session)| Command::Unwrap { table, session }),
         "messages" => messages_in(matches),
         "status" => session_in(matches).map(|(table, session)| Command::Status { table, session }),
-        _ => None,
+        _ => with_looks(name, matches),
     }
 }

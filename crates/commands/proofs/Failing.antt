@@ -11,7 +11,7 @@ use Rattle.pump_frame.specs.Counts.{Rose}
 use Rattle.script_replay.specs.Failing.{IsNotGiven, CameBackFailed, FailsBetween, FailsAt}
 use Rattle.script_replay.specs.Lending.{IsOutAt, RisesAt, AreOnShelf}
 use Rattle.script_replay.specs.Shelves.{Places, disk_name, LeavesOtherSessions}
-use Rattle.script_replay.specs.declared.disks.TakenDisks.{TakenDisks}
+use Rattle.recovery.specs.declared.trio.Trio.{Trio}
 use Rattle.script_replay.proofs.Shelving.{rose_more}
 use Rattle.commands.specs.LentDisks.{IsNotGivenFirst, RecvFailsAt}
 use Rattle.commands.specs.Migrating.{session_at}
@@ -65,7 +65,7 @@ second_untaken_names m d old mid answered last one two at shelf.Failed end apart
     )
 
 -- it came back
-pub came_back : {S D : Type 0} (m : Holdings S) (d : Meaning D) (lent last : S) (session : ℕ) (old new : TakenDisks D) → AreOutAt d (m.disk lent) session old
+pub came_back : {S D : Type 0} (m : Holdings S) (d : Meaning D) (lent last : S) (session : ℕ) (old new : Trio D) → AreOutAt d (m.disk lent) session old
     → (m.tells → AreOnShelf (m.disk last) session (d.reading new.low) (d.reading new.high) (d.reading new.recv)) → (role : Role) → RoseAt d role old new → CameBackFailed m d (m.disk last) session role
 came_back m d lent last session old new out on roles.Low rose =
     let (given, is, low) = out.0 in record { lent = lent; given = given; disk = new.low; out = is; rose = rose_more given _ _ low rose; back = λ told. (on told).low_on }
@@ -75,7 +75,7 @@ came_back m d lent last session old new out on roles.Recv rose =
     let (given, is, low) = out.2 in record { lent = lent; given = given; disk = new.recv; out = is; rose = rose_more given _ _ low rose; back = λ told. (on told).recv_on }
 
 -- .. of the one session or the other
-pub one_came_back : {S D : Type 0} (m : Holdings S) (d : Meaning D) (lent last : S) (one two : ℕ) (old old_now new new_now : TakenDisks D) → AreOutAt d (m.disk lent) one old → AreOutAt d (m.disk lent) two new
+pub one_came_back : {S D : Type 0} (m : Holdings S) (d : Meaning D) (lent last : S) (one two : ℕ) (old old_now new new_now : Trio D) → AreOutAt d (m.disk lent) one old → AreOutAt d (m.disk lent) two new
     → (m.tells → AreOnShelf (m.disk last) one (d.reading old_now.low) (d.reading old_now.high) (d.reading old_now.recv)) → (m.tells → AreOnShelf (m.disk last) two (d.reading new_now.low) (d.reading new_now.high) (d.reading new_now.recv))
     → (is_new : Bool) (role : Role) → moves.FailsAt d is_new role old old_now new new_now → CameBackFailed m d (m.disk last) (session_at one two is_new) role
 one_came_back m d lent last one two old old_now new new_now out new_out on new_on true role rose = came_back m d lent last two new new_now new_out new_on role rose

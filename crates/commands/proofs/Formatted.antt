@@ -18,7 +18,7 @@ use Rattle.script_replay.specs.Shelves.{Places, reading_in, reading_at, LeavesOt
 use Rattle.commands.specs.TakenDisks.{HasBytes, RoseAt, StopsFormat}
 use Rattle.command_ends.specs.declared.command_end.CommandEnd.{CommandEnd}
 use Rattle.command_ends.specs.declared.command_end.CommandEnd.TheVariants.{Memory, Failed, Refused}
-use Rattle.script_replay.specs.declared.disks.TakenDisks.{TakenDisks}
+use Rattle.recovery.specs.declared.trio.Trio.{Trio}
 use Rattle.script_replay.proofs.Shelving.{read_in, name_is, rose_more, others_so, spares_so}
 
 pub on_ok : {T E P Q R : Type 0} (r : Result T E) → OnOk r P → OnOk r Q → (P → Q → R) → OnOk r R
@@ -29,14 +29,14 @@ pub if_err : {T E : Type 0} (r : Result T E) (P Q : E → Type 0) → IfErr r P 
 if_err (Ok x) P Q h f = tt
 if_err (Err e) P Q h f = f e h
 
-abbrev pub disk_of : {D : Type 0} → Role → TakenDisks D → D
+abbrev pub disk_of : {D : Type 0} → Role → Trio D → D
 disk_of roles.Low disks = disks.low
 disk_of roles.High disks = disks.high
 disk_of roles.Recv disks = disks.recv
 
 -- ---- before and after ----
 
-module _ {D : Type 0} (d : Meaning D) (tells : d.tells) (before mid now : Places) (id : ℕ) (old new : TakenDisks D)
+module _ {D : Type 0} (d : Meaning D) (tells : d.tells) (before mid now : Places) (id : ℕ) (old new : Trio D)
     (taken : LeavesOtherSessions before mid id) (returned : LeavesOtherSessions mid now id)
     (low_read : ReadAt before id roles.Low (d.reading old.low)) (high_read : ReadAt before id roles.High (d.reading old.high)) (recv_read : ReadAt before id roles.Recv (d.reading old.recv))
     (on : AreOnShelf now id (d.reading new.low) (d.reading new.high) (d.reading new.recv)) where
@@ -64,7 +64,7 @@ module _ {D : Type 0} (d : Meaning D) (tells : d.tells) (before mid now : Places
     others = others_so before mid now id taken returned;
   }
 
-module _ {D : Type 0} (d : Meaning D) (tells : d.tells) (before mid now : Places) (row : SessionRow) (old new : TakenDisks D)
+module _ {D : Type 0} (d : Meaning D) (tells : d.tells) (before mid now : Places) (row : SessionRow) (old new : Trio D)
     (taken : LeavesOtherSessions before mid row.id) (returned : LeavesOtherSessions mid now row.id)
     (low_read : ReadAt before row.id roles.Low (d.reading old.low)) (high_read : ReadAt before row.id roles.High (d.reading old.high)) (recv_read : ReadAt before row.id roles.Recv (d.reading old.recv))
     (on : AreOnShelf now row.id (d.reading new.low) (d.reading new.high) (d.reading new.recv)) where
@@ -101,7 +101,7 @@ module _ {D : Type 0} (d : Meaning D) (tells : d.tells) (before mid now : Places
 
 -- ---- a disk that failed while it was out ----
 
-module _ {D : Type 0} (d : Meaning D) (mid : Places) (id : ℕ) (old new : TakenDisks D) (first last : ℕ) where
+module _ {D : Type 0} (d : Meaning D) (mid : Places) (id : ℕ) (old new : Trio D) (first last : ℕ) where
   rises_at : (role : Role) (was now : D) → IsOutAt mid id role (d.count was) → RisesAt mid id role (d.count now) first last → Rose (d.count was) (d.count now) → Rose first last
   rises_at role was now out rises rose = rises out.0 out.1 (rose_more out.0 (d.count was) (d.count now) out.2 rose)
 
@@ -113,14 +113,14 @@ module _ {D : Type 0} (d : Meaning D) (mid : Places) (id : ℕ) (old new : Taken
   rises_so a b c x y z roles.Recv rose = rises_at roles.Recv old.recv new.recv c z rose
 
 -- what stops a format with this end is that the disk failed
-pub failed_at : {D T : Type 0} (d : Meaning D) (old new : TakenDisks D) (r : Result T CommandEnd) (role : Role) → IfErr r (StopsFormat d old new) → r ≡ Err (Failed role) → RoseAt d role old new
+pub failed_at : {D T : Type 0} (d : Meaning D) (old new : Trio D) (r : Result T CommandEnd) (role : Role) → IfErr r (StopsFormat d old new) → r ≡ Err (Failed role) → RoseAt d role old new
 failed_at d old new (Ok x) role h e = cc
 failed_at d old new (Err end) role h e =
     let same : end ≡ Failed role = cc in
     let fails : StopsFormat d old new (Failed role) = subst (λ (k : CommandEnd). StopsFormat d old new k) same h in
     fails.0
 
-pub disk_end : {D : Type 0} (d : Meaning D) (old new : TakenDisks D) (end : CommandEnd) → StopsFormat d old new end → IsDiskEnd end
+pub disk_end : {D : Type 0} (d : Meaning D) (old new : Trio D) (end : CommandEnd) → StopsFormat d old new end → IsDiskEnd end
 disk_end d old new (Failed role) h = tt
 disk_end d old new (Refused role why) h = tt
 disk_end d old new end h = absurd h

@@ -12,7 +12,7 @@ use Rattle.recovery.specs.declared.why.Why.{Why}
 use Rattle.recovery.specs.declared.why.Why.TheVariants as whys
 use Rattle.script_replay.specs.Lending.{AreOnShelf}
 use Rattle.script_replay.specs.Shelves.{Places, OfDisks, disk_name, reading_in, reading_at, AllAreBack, ReadsAlike, SparesSession}
-use Rattle.script_replay.specs.declared.disks.TakenDisks.{TakenDisks}
+use Rattle.recovery.specs.declared.trio.Trio.{Trio}
 use Rattle.script_replay.proofs.Shelving.{read_in, name_is}
 use Rattle.commands.specs.LentDisks.{LeavesOtherPair, StopsAtShelf}
 use Rattle.command_ends.specs.CommandEnds.{end_line}
@@ -44,7 +44,7 @@ not_failed role other why e = cc
 
 -- ---- the disks of one session ----
 
-module _ {D : Type 0} (d : Meaning D) (places : Places) (session : ℕ) (disks : TakenDisks D) where
+module _ {D : Type 0} (d : Meaning D) (places : Places) (session : ℕ) (disks : Trio D) where
   read_at : AreReadAt d places session disks → (role : Role) → reading_at places session role ≡ d.reading (disk_of role disks)
   read_at h roles.Low = read_in _ _ h.0
   read_at h roles.High = read_in _ _ h.1
@@ -67,7 +67,7 @@ module _ {D : Type 0} (d : Meaning D) (places : Places) (session : ℕ) (disks :
       → Holds (d.reading disks.low) (d.reading disks.high) (d.reading disks.recv) → OfDisks places session Holds
   of_read same Holds h = subst (λ (t : List ℕ × List ℕ × List ℕ). Holds t.0 t.1 t.2) (λ i. (sym (same roles.Low) i, sym (same roles.High) i, sym (same roles.Recv) i)) h
 
-module _ {D : Type 0} (d : Meaning D) (tells : d.tells) (old now : TakenDisks D) where
+module _ {D : Type 0} (d : Meaning D) (tells : d.tells) (old now : Trio D) where
   same_read : ReadOn d old now → (role : Role) → d.reading (disk_of role now) ≡ d.reading (disk_of role old)
   same_read h roles.Low = (h tells).0
   same_read h roles.High = (h tells).1
@@ -83,7 +83,7 @@ module _ {D : Type 0} (d : Meaning D) (tells : d.tells) (old now : TakenDisks D)
 pub pair_others : (before mid now : Places) (one two : ℕ) → LeavesOtherPair before mid one two → LeavesOtherPair mid now one two → LeavesOtherPair before now one two
 pair_others before mid now one two taken returned name a b = returned name a b ∙ taken name a b
 
-module _ {D : Type 0} (d : Meaning D) (before mid now : Places) (one two : ℕ) (old new old_now new_now : TakenDisks D)
+module _ {D : Type 0} (d : Meaning D) (before mid now : Places) (one two : ℕ) (old new old_now new_now : Trio D)
     (taken : LeavesOtherPair before mid one two) (returned : LeavesOtherPair mid now one two)
     (on : AreOnShelf now one (d.reading old_now.low) (d.reading old_now.high) (d.reading old_now.recv))
     (new_on : AreOnShelf now two (d.reading new_now.low) (d.reading new_now.high) (d.reading new_now.recv)) where
@@ -125,7 +125,7 @@ module _ {D : Type 0} (d : Meaning D) (before mid now : Places) (one two : ℕ) 
       | inr other ↦ others_alike name other
     ]
 
-module _ {D : Type 0} (d : Meaning D) (tells : d.tells) (before mid now : Places) (row new_row : SessionRow) (old new old_now new_now : TakenDisks D)
+module _ {D : Type 0} (d : Meaning D) (tells : d.tells) (before mid now : Places) (row new_row : SessionRow) (old new old_now new_now : Trio D)
     (taken : LeavesOtherPair before mid row.id new_row.id) (returned : LeavesOtherPair mid now row.id new_row.id)
     (on : AreOnShelf now row.id (d.reading old_now.low) (d.reading old_now.high) (d.reading old_now.recv))
     (new_on : AreOnShelf now new_row.id (d.reading new_now.low) (d.reading new_now.high) (d.reading new_now.recv))
@@ -186,10 +186,10 @@ module _ (one two : ℕ) where
 -- ---- a disk that failed, or can't be taken ----
 
 module _ {D : Type 0} (d : Meaning D) (mid : Places) (first last : ℕ) where
-  rises : (session : ℕ) (old now : TakenDisks D) → AreOutAt d mid session old → RiseAt d mid session first last now → (role : Role) → RoseAt d role old now → Rose first last
+  rises : (session : ℕ) (old now : Trio D) → AreOutAt d mid session old → RiseAt d mid session first last now → (role : Role) → RoseAt d role old now → Rose first last
   rises session old now out rise role rose = rises_so d mid session old now first last out.0 out.1 out.2 rise.0 rise.1 rise.2 role rose
 
-  pub rises_at : (one two : ℕ) (old new old_now new_now : TakenDisks D) → AreOutAt d mid one old → AreOutAt d mid two new → RiseAt d mid one first last old_now → RiseAt d mid two first last new_now
+  pub rises_at : (one two : ℕ) (old new old_now new_now : Trio D) → AreOutAt d mid one old → AreOutAt d mid two new → RiseAt d mid one first last old_now → RiseAt d mid two first last new_now
       → (is_new : Bool) (role : Role) → FailsAt d is_new role old old_now new new_now → Rose first last
   rises_at one two old new old_now new_now out new_out rise new_rise true role rose = rises two new new_now new_out new_rise role rose
   rises_at one two old new old_now new_now out new_out rise new_rise false role rose = rises one old old_now out rise role rose

@@ -10,12 +10,11 @@ use Rattle.recovery.specs.Moves.{StandFor, AreFound, AreWritten, AreWrittenInTur
 use Rattle.recovery.specs.declared.trio.MoveFault.{MoveFault}
 use Rattle.recovery.specs.declared.trio.Trio.{Trio}
 use Rattle.recovery.specs.declared.why.Why.{Why}
-use Rattle.script_replay.specs.declared.disks.TakenDisks.{TakenDisks}
 use Rattle.stable_buffer.specs.Format.{receiver_size}
 use Rattle.script_reader.specs.Openings.{Found, accepted_in}
 use Rattle.two_worlds.specs.Openings.{StandForFound}
 use Rattle.two_worlds.proofs.Opening.Surveying.{same_messages}
-use Rattle.commands.specs.Migrating.{AreInTurn, MovesTo, StopsMove, FailsAt, counted, taken_of, trio_of}
+use Rattle.commands.specs.Migrating.{AreInTurn, MovesTo, StopsMove, FailsAt, counted}
 use Rattle.commands.specs.TakenDisks.{CountOn, ReadOn, SpareOn}
 use Rattle.commands.specs.declared.migrate.Counts.{Counts}
 use Rattle.commands.proofs.MovedFound.{found, stands, new_stands, accepted}
@@ -32,8 +31,8 @@ module _ {D : Type 0} (d : Meaning D) (row new_row : SessionRow) where
       × StandFor new_row n.0 n.1 live received (d.reading now.low) (d.reading now.high) (d.reading now.recv)
       × AreWritten new_row n.0 n.1 n.2 live (d.reading old.recv) (d.reading now.low) (d.reading now.high) (d.reading now.recv)
 
-  moved : (lawful : IsLawfulRow row) (new_lawful : IsLawfulRow new_row) (old new now : TakenDisks D) (accepted_count removed_count received_count : ℕ)
-      → Given (trio_of old) (trio_of new) (trio_of now) (accepted_count, removed_count, received_count)
+  moved : (lawful : IsLawfulRow row) (new_lawful : IsLawfulRow new_row) (old new now : Trio D) (accepted_count removed_count received_count : ℕ)
+      → Given old new now (accepted_count, removed_count, received_count)
       → MovesTo d row new_row old new now (record { accepted = accepted_count; removed = removed_count; received = received_count })
   moved lawful new_lawful old new now e b r (live, received, a, count, none, s, written) = record {
     found = found row new_row lawful new_lawful e b live received _ _ _ _ _ _ a s;
@@ -50,17 +49,16 @@ module _ {D : Type 0} (d : Meaning D) (row new_row : SessionRow) where
         (λ i. (all i, sym count i, sym same i)) written;
   }
 
-  pub moved_ok : (lawful : IsLawfulRow row) (new_lawful : IsLawfulRow new_row) (old new now : TakenDisks D) (o t u : Trio D) (end : Result (ℕ × ℕ × ℕ) MoveFault) (r : Result Counts MoveFault)
-      → o ≡ trio_of old → t ≡ trio_of new → now ≡ taken_of u → r ≡ counted end → IfOk end (λ n. d.tells → Given o t u n) → IfOk r (λ counts. d.tells → MovesTo d row new_row old new now counts)
-  moved_ok lawful new_lawful old new now o t u (Err fault) r one two three four h = subst (λ (x : Result Counts MoveFault). IfOk x (λ counts. d.tells → MovesTo d row new_row old new now counts)) (sym four) tt
-  moved_ok lawful new_lawful old new now o t u (Ok n) r one two three four h =
-      subst (λ (x : Result Counts MoveFault). IfOk x (λ counts. d.tells → MovesTo d row new_row old new now counts)) (sym four)
-      (λ tells. moved lawful new_lawful old new now n.0 n.1 n.2
-      (subst (λ (x : Trio D × Trio D × Trio D). Given x.0 x.1 x.2 n) (λ i. (one i, two i, sym (ap (λ (x : TakenDisks D). trio_of x) three) i)) (h tells)))
+  pub moved_ok : (lawful : IsLawfulRow row) (new_lawful : IsLawfulRow new_row) (old new now : Trio D) (end : Result (ℕ × ℕ × ℕ) MoveFault) (r : Result Counts MoveFault)
+      → r ≡ counted end → IfOk end (λ n. d.tells → Given old new now n) → IfOk r (λ counts. d.tells → MovesTo d row new_row old new now counts)
+  moved_ok lawful new_lawful old new now (Err fault) r same h = subst (λ (x : Result Counts MoveFault). IfOk x (λ counts. d.tells → MovesTo d row new_row old new now counts)) (sym same) tt
+  moved_ok lawful new_lawful old new now (Ok n) r same h =
+      subst (λ (x : Result Counts MoveFault). IfOk x (λ counts. d.tells → MovesTo d row new_row old new now counts)) (sym same)
+      (λ tells. moved lawful new_lawful old new now n.0 n.1 n.2 (h tells))
 
 -- ---- what stopped it ----
 
-module _ {D : Type 0} (d : Meaning D) (old old_now new new_now : TakenDisks D) where
+module _ {D : Type 0} (d : Meaning D) (old old_now new new_now : Trio D) where
   -- each disk's count, and why it rose
   pub record AreCounted (end : Result (ℕ × ℕ × ℕ) MoveFault) : Type 0 where
     pub low : Counted d old.low old_now.low (is_blamed false roles.Low end)
@@ -82,7 +80,7 @@ module _ {D : Type 0} (d : Meaning D) (old old_now new new_now : TakenDisks D) w
     -- the new disks are written in turn, whatever the old ones stand for
     abbrev pub Turns : Result (ℕ × ℕ × ℕ) MoveFault → Type 0
     Turns end = (E B : ℕ) (live received : List (List ℕ)) → StandFor row E B live received (d.reading old.low) (d.reading old.high) (d.reading old.recv)
-        → AreWrittenInTurn d (low_bytes new_row E B live) (high_bytes new_row B) (trio_of new) (trio_of new_now) end
+        → AreWrittenInTurn d (low_bytes new_row E B live) (high_bytes new_row B) new new_now end
 
     in_turn : (fault : MoveFault) → Turns (Err fault) → d.tells → (f : Found) → StandForFound row f (d.reading old.low) (d.reading old.high) (d.reading old.recv)
         → AreInTurn new_row f fault.role (d.reading new.low) (d.reading new.high) (d.reading new.recv) (d.reading new_now.low) (d.reading new_now.high) (d.reading new_now.recv)
@@ -127,7 +125,7 @@ recv_full [] (b ∷ high) recv some none = cc
 recv_full [] [] [] some none = some refl
 recv_full [] [] (b ∷ recv) some none = cc
 
-pub spared_so : {D : Type 0} (d : Meaning D) (new new_now : TakenDisks D)
+pub spared_so : {D : Type 0} (d : Meaning D) (new new_now : Trio D)
     → (d.tells → (first_full (d.reading new.low) (d.reading new.high) (d.reading new.recv) ≡ None → ⊥) → ReadOn d new new_now) → SpareOn d new new_now
 spared_so d new new_now full tells = (
   λ some. (full tells (low_full _ _ _ some) tells).0,
@@ -154,25 +152,20 @@ pub record Says {D : Type 0} (d : Meaning D) (row new_row : SessionRow) (old new
   pub full : d.tells → (first_full (d.reading new.low) (d.reading new.high) (d.reading new.recv) ≡ None → ⊥)
       → Moves d Same new.low new_now.low × Moves d Same new.high new_now.high × Moves d Same new.recv new_now.recv
 
-module _ {D : Type 0} (d : Meaning D) (row new_row : SessionRow) (old new old_now new_now : TakenDisks D) (o t u v : Trio D) (end : Result (ℕ × ℕ × ℕ) MoveFault)
-    (one : o ≡ trio_of old) (two : t ≡ trio_of new) (three : old_now ≡ taken_of u) (four : new_now ≡ taken_of v) (says : Says d row new_row o t u v end) where
-  said : Says d row new_row (trio_of old) (trio_of new) (trio_of old_now) (trio_of new_now) end
-  said = subst (λ (x : Trio D × Trio D × Trio D × Trio D). Says d row new_row x.0 x.1 x.2 x.3 end)
-      (λ i. (one i, two i, sym (ap (λ (x : TakenDisks D). trio_of x) three) i, sym (ap (λ (x : TakenDisks D). trio_of x) four) i)) says
-
+module _ {D : Type 0} (d : Meaning D) (row new_row : SessionRow) (old new old_now new_now : Trio D) (end : Result (ℕ × ℕ × ℕ) MoveFault) (says : Says d row new_row old new old_now new_now end) where
   pub read : ReadOn d old old_now
-  read tells = (said.low.moves.reads tells, said.high.moves.reads tells, said.recv.moves.reads tells)
+  read tells = (says.low.moves.reads tells, says.high.moves.reads tells, says.recv.moves.reads tells)
 
   pub spared : SpareOn d new new_now
-  spared = spared_so d new new_now (λ tells some told. let m = said.full tells some in (m.0.reads told, m.1.reads told, m.2.reads told))
+  spared = spared_so d new new_now (λ tells some told. let m = says.full tells some in (m.0.reads told, m.1.reads told, m.2.reads told))
 
   pub counts : CountOn d old old_now
-  counts = (said.low.counted.counts, said.high.counted.counts, said.recv.counted.counts)
+  counts = (says.low.counted.counts, says.high.counted.counts, says.recv.counted.counts)
 
   pub new_counts : CountOn d new new_now
-  new_counts = (said.new_low.counts, said.new_high.counts, said.new_recv.counts)
+  new_counts = (says.new_low.counts, says.new_high.counts, says.new_recv.counts)
 
   pub stops : (r : Result Counts MoveFault) → r ≡ counted end → IfErr r (StopsMove d row new_row old old_now new new_now)
   stops r same = stopped d old old_now new new_now row new_row end r same
-      (record { low = said.low.counted; high = said.high.counted; recv = said.recv.counted; new_low = said.new_low; new_high = said.new_high; new_recv = said.new_recv })
-      said.refused (λ tells fault refused told. let m = said.unwritten tells fault refused in (m.0.reads told, m.1.reads told, m.2.reads told)) said.turn
+      (record { low = says.low.counted; high = says.high.counted; recv = says.recv.counted; new_low = says.new_low; new_high = says.new_high; new_recv = says.new_recv })
+      says.refused (λ tells fault refused told. let m = says.unwritten tells fault refused in (m.0.reads told, m.1.reads told, m.2.reads told)) says.turn

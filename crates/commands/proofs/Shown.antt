@@ -23,7 +23,7 @@ use Rattle.command_ends.specs.Tables.{HasRow}
 use Rattle.commands.specs.TakenDisks.{RoseAt}
 use Rattle.command_ends.specs.declared.command_end.CommandEnd.{CommandEnd}
 use Rattle.command_ends.specs.declared.command_end.CommandEnd.TheVariants.{Memory, Failed, Refused}
-use Rattle.script_replay.specs.declared.disks.TakenDisks.{TakenDisks}
+use Rattle.recovery.specs.declared.trio.Trio.{Trio}
 use Rattle.commands.proofs.Formatted.{disk_of, was, alike_so}
 use Rattle.script_replay.proofs.Shelving.{others_so}
 
@@ -41,7 +41,7 @@ live_more session first (x ∷ xs) (suc i) m low is =
 
 -- ---- the disks ----
 
-module _ {D : Type 0} (d : Meaning D) (tells : d.tells) (before mid now : Places) (row : SessionRow) (old new : TakenDisks D)
+module _ {D : Type 0} (d : Meaning D) (tells : d.tells) (before mid now : Places) (row : SessionRow) (old new : Trio D)
     (taken : LeavesOtherSessions before mid row.id) (returned : LeavesOtherSessions mid now row.id)
     (low_read : ReadAt before row.id roles.Low (d.reading old.low)) (high_read : ReadAt before row.id roles.High (d.reading old.high)) (recv_read : ReadAt before row.id roles.Recv (d.reading old.recv))
     (on : AreOnShelf now row.id (d.reading new.low) (d.reading new.high) (d.reading new.recv))
@@ -110,7 +110,7 @@ is_blamed roles.High roles.Recv (Some (whys.Device n)) e = cc
 is_blamed roles.Recv roles.Low (Some (whys.Device n)) e = cc
 is_blamed roles.Recv roles.High (Some (whys.Device n)) e = cc
 
-pub rose_at : {D : Type 0} (d : Meaning D) (old : TakenDisks D) (e : NotOpen D) → IsRead d old.low e.low (failed_at roles.Low e) → IsRead d old.high e.high (failed_at roles.High e) → IsRead d old.recv e.recv (failed_at roles.Recv e)
+pub rose_at : {D : Type 0} (d : Meaning D) (old : Trio D) (e : NotOpen D) → IsRead d old.low e.low (failed_at roles.Low e) → IsRead d old.high e.high (failed_at roles.High e) → IsRead d old.recv e.recv (failed_at roles.Recv e)
     → (role : Role) → end_at e.role e.why ≡ Failed role → RoseAt d role old (record { low = e.low; high = e.high; recv = e.recv })
 rose_at d old e a b c roles.Low is = a.rose (is_blamed roles.Low e.role e.why is)
 rose_at d old e a b c roles.High is = b.rose (is_blamed roles.High e.role e.why is)

@@ -20,7 +20,6 @@ use Rattle.recovery.specs.declared.why.Why.TheVariants as whys
 use Rattle.script_reader.specs.Openings.{Found, accepted_in}
 use Rattle.script_replay.specs.Lending.{ReadAt, AreOnShelf}
 use Rattle.script_replay.specs.Shelves.{Places, LeavesOtherSessions, reading_at}
-use Rattle.script_replay.specs.declared.disks.TakenDisks.{TakenDisks}
 use Rattle.script_replay.proofs.Shelving.{others_so}
 use Rattle.stable_buffer.specs.Format.{new_bytes}
 use Rattle.two_worlds.specs.Openings.{IsLeft, IsRefused, StandForFound, readied}
@@ -114,10 +113,7 @@ wrap_table_only end h = absurd h
 -- ---- a disk that failed ----
 
 module _ {D : Type 0} (m : Meaning D) (old new : Trio D) where
-  abbrev taken : Trio D → TakenDisks D
-  taken disks = record { low = disks.low; high = disks.high; recv = disks.recv }
-
-  rose_at : (role : Role) (faults : ℕ) → HasFailed m role faults old new → RoseAt m role (taken old) (taken new)
+  rose_at : (role : Role) (faults : ℕ) → HasFailed m role faults old new → RoseAt m role old new
   rose_at roles.Low faults h = h.1
   rose_at roles.High faults h = h.1
   rose_at roles.Recv faults h = h.1
@@ -125,8 +121,8 @@ module _ {D : Type 0} (m : Meaning D) (old new : Trio D) where
   failed_role : (a b : Role) → Failed a ≡ Failed b → a ≡ b
   failed_role a b e = cc
 
-  refused_rose : (at role : Role) (why : Why) → HasDiskCause m old new (answers.Refused at why) → end_at at (Some why) ≡ Failed role → RoseAt m role (taken old) (taken new)
-  refused_rose at role (whys.Device faults) h e = subst (λ (r : Role). RoseAt m r (taken old) (taken new)) (failed_role at role e) (rose_at at faults h)
+  refused_rose : (at role : Role) (why : Why) → HasDiskCause m old new (answers.Refused at why) → end_at at (Some why) ≡ Failed role → RoseAt m role old new
+  refused_rose at role (whys.Device faults) h e = subst (λ (r : Role). RoseAt m r old new) (failed_role at role e) (rose_at at faults h)
   refused_rose at role (whys.NotABuffer size bytes) h e = absurd (cc)
   refused_rose at role (whys.WrongShape field found wanted) h e = absurd (cc)
   refused_rose at role (whys.BadRegister first second) h e = absurd (cc)
@@ -138,7 +134,7 @@ module _ {D : Type 0} (m : Meaning D) (old new : Trio D) where
   refused_rose at role (whys.Small held capacity) h e = absurd (cc)
   refused_rose at role (whys.TooLong number size) h e = absurd (cc)
 
-  pub device_rose : (answer : WrapEnd) (role : Role) → HasDiskCause m old new answer → end_of_wrap answer ≡ Failed role → RoseAt m role (taken old) (taken new)
+  pub device_rose : (answer : WrapEnd) (role : Role) → HasDiskCause m old new answer → end_of_wrap answer ≡ Failed role → RoseAt m role old new
   device_rose (answers.Done bytes messages) role h e = absurd (cc)
   device_rose answers.Memory role h e = absurd (cc)
   device_rose answers.Read role h e = absurd (cc)
@@ -146,7 +142,7 @@ module _ {D : Type 0} (m : Meaning D) (old new : Trio D) where
   device_rose (answers.Differs number) role h e = absurd (cc)
   device_rose (answers.Refused at why) role h e = refused_rose at role why h e
   device_rose (answers.Stopped stops.Line) role h e = absurd (cc)
-  device_rose (answers.Stopped (stops.Device at faults)) role h e = subst (λ (r : Role). RoseAt m r (taken old) (taken new)) (failed_role at role e) (rose_at at faults h)
+  device_rose (answers.Stopped (stops.Device at faults)) role h e = subst (λ (r : Role). RoseAt m r old new) (failed_role at role e) (rose_at at faults h)
   device_rose (answers.Stopped (stops.Full end length size)) role h e = absurd (cc)
   device_rose (answers.Stopped (stops.Disk at why)) role h e = absurd (cc)
 
@@ -156,21 +152,15 @@ module _ {D : Type 0} (m : Meaning D) (tells : m.tells) (before mid now : Places
     (lent : LeavesOtherSessions before mid row.id) (returned : LeavesOtherSessions mid now row.id)
     (low_read : ReadAt before row.id roles.Low (m.reading old.low)) (high_read : ReadAt before row.id roles.High (m.reading old.high)) (recv_read : ReadAt before row.id roles.Recv (m.reading old.recv))
     (on : AreOnShelf now row.id (m.reading new.low) (m.reading new.high) (m.reading new.recv)) where
-  abbrev old_disks : TakenDisks D
-  old_disks = record { low = old.low; high = old.high; recv = old.recv }
-
-  abbrev new_disks : TakenDisks D
-  new_disks = record { low = new.low; high = new.high; recv = new.recv }
-
   was_at : (role : Role) → reading_at before row.id role ≡ m.reading (disk_of old role)
-  was_at roles.Low = was m tells before mid now row.id old_disks new_disks lent returned low_read high_read recv_read on roles.Low
-  was_at roles.High = was m tells before mid now row.id old_disks new_disks lent returned low_read high_read recv_read on roles.High
-  was_at roles.Recv = was m tells before mid now row.id old_disks new_disks lent returned low_read high_read recv_read on roles.Recv
+  was_at roles.Low = was m tells before mid now row.id old new lent returned low_read high_read recv_read on roles.Low
+  was_at roles.High = was m tells before mid now row.id old new lent returned low_read high_read recv_read on roles.High
+  was_at roles.Recv = was m tells before mid now row.id old new lent returned low_read high_read recv_read on roles.Recv
 
   is_at : (role : Role) → reading_at now row.id role ≡ m.reading (disk_of new role)
-  is_at roles.Low = is m tells before mid now row.id old_disks new_disks lent returned low_read high_read recv_read on roles.Low
-  is_at roles.High = is m tells before mid now row.id old_disks new_disks lent returned low_read high_read recv_read on roles.High
-  is_at roles.Recv = is m tells before mid now row.id old_disks new_disks lent returned low_read high_read recv_read on roles.Recv
+  is_at roles.Low = is m tells before mid now row.id old new lent returned low_read high_read recv_read on roles.Low
+  is_at roles.High = is m tells before mid now row.id old new lent returned low_read high_read recv_read on roles.High
+  is_at roles.Recv = is m tells before mid now row.id old new lent returned low_read high_read recv_read on roles.Recv
 
   abbrev Three : Type 0
   Three = List ℕ × List ℕ × List ℕ

@@ -15,7 +15,6 @@ use Rattle.recovery.specs.declared.why.Why.{Why}
 use Rattle.script_reader.specs.Openings.{Found, accepted_in}
 use Rattle.script_reader.specs.Transcript.{line_with_end}
 use Rattle.script_replay.specs.Shelves.{Places, OfDisks, reading_at, reading_in, ReadsAlike, SparesSession}
-use Rattle.script_replay.specs.declared.disks.TakenDisks.{TakenDisks}
 use Rattle.stable_buffer.specs.Format.{receiver_size}
 use Rattle.two_worlds.specs.Openings.{StandForFound}
 use Rattle.command_ends.specs.CommandEnds.{end_line}
@@ -164,13 +163,7 @@ HaltsSo before after row new_row halt =
     (is_new : Bool) × (halt.session ≡ session_at row.id new_row.id is_new)
     × MigrateStops before after row new_row is_new halt.end
 
--- three disks by either name, and the counts as they are told
-abbrev pub trio_of : {D : Type 0} → TakenDisks D → Trio D
-trio_of disks = record { low = disks.low; high = disks.high; recv = disks.recv }
-
-abbrev pub taken_of : {D : Type 0} → Trio D → TakenDisks D
-taken_of disks = record { low = disks.low; high = disks.high; recv = disks.recv }
-
+-- the counts as they are told
 abbrev pub counted : Result (ℕ × ℕ × ℕ) MoveFault → Result Counts MoveFault
 counted (Ok n) = Ok (record { accepted = n.0; removed = n.1; received = n.2 })
 counted (Err fault) = Err fault
@@ -188,7 +181,7 @@ halted session new_session (Ok counts) = Ok counts
 halted session new_session (Err fault) = Err (halt_of session new_session fault)
 
 -- off the shelf: three disks stood for what was found, and three empty ones stand for it now
-pub record MovesTo {D : Type 0} (d : Meaning D) (row new_row : SessionRow) (old new now : TakenDisks D)
+pub record MovesTo {D : Type 0} (d : Meaning D) (row new_row : SessionRow) (old new now : Trio D)
     (counts : Counts) : Type 0 where
   pub found : Found
   pub stand : StandForFound row found (d.reading old.low) (d.reading old.high) (d.reading old.recv)
@@ -199,13 +192,13 @@ pub record MovesTo {D : Type 0} (d : Meaning D) (row new_row : SessionRow) (old 
   pub counted : AreCounts found counts
 
 -- .. the disk of this role failed
-abbrev pub FailsAt : {D : Type 0} → Meaning D → Bool → Role → TakenDisks D → TakenDisks D → TakenDisks D → TakenDisks D
+abbrev pub FailsAt : {D : Type 0} → Meaning D → Bool → Role → Trio D → Trio D → Trio D → Trio D
     → Type 0
 FailsAt d true role old old_now new new_now = RoseAt d role new new_now
 FailsAt d false role old old_now new new_now = RoseAt d role old old_now
 
 -- .. or it is refused, and nothing was written
-pub record StopsMove {D : Type 0} (d : Meaning D) (row new_row : SessionRow) (old old_now new new_now : TakenDisks D)
+pub record StopsMove {D : Type 0} (d : Meaning D) (row new_row : SessionRow) (old old_now new new_now : Trio D)
     (fault : MoveFault) : Type 0 where
   pub failed : is_device fault.why ≡ true → FailsAt d fault.new fault.role old old_now new new_now
   pub turn : d.tells → (f : Found) → StandForFound row f (d.reading old.low) (d.reading old.high) (d.reading old.recv)

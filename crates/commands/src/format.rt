@@ -21,8 +21,8 @@ use command_line::TableName;
 use disk_model::{Disk, DiskFault, Role, Shelf, ShelfFault};
 use pump_frame::SessionRow;
 use pump_link::Sink;
-use recovery::Why;
-use script_replay::{NotTaken, TakenDisks, put_disks_back, take_disks};
+use recovery::{Trio, Why};
+use script_replay::{NotTaken, put_disks_back, take_disks};
 use stable_buffer::format;
 use std::alloc::Global;
 
@@ -44,7 +44,7 @@ fn check_empty<D: Disk>(disk: &mut D, role: Role) -> Result<(), CommandEnd>
 }
 
 // The sizes of all three are known before one of them is written.
-fn check_all<D: Disk>(disks: &mut TakenDisks<D>) -> Result<(), CommandEnd>
+fn check_all<D: Disk>(disks: &mut Trio<D>) -> Result<(), CommandEnd>
     ensures empty { OnOk result (HasBytes D.told (λ role. []) disks.old) }
     ensures read { ReadOn D.told disks.old disks.new }
     ensures counts { CountOn D.told disks.old disks.new }
@@ -69,7 +69,7 @@ fn format_disk<D: Disk>(disk: &mut D, row: &SessionRow, role: Role) -> Result<()
     }
 }
 
-fn format_all<D: Disk>(disks: &mut TakenDisks<D>, row: &SessionRow) -> Result<(), CommandEnd>
+fn format_all<D: Disk>(disks: &mut Trio<D>, row: &SessionRow) -> Result<(), CommandEnd>
     requires empty { HasBytes D.told (λ role. []) disks.old }
     requires lawful { IsLawfulRow row.now }
     ensures new { OnOk result (HasBytes D.told (λ role. new_bytes row.now role 0) disks.new) }
@@ -81,7 +81,7 @@ fn format_all<D: Disk>(disks: &mut TakenDisks<D>, row: &SessionRow) -> Result<()
     format_disk(&mut disks.recv, row, Role::Recv)
 }
 
-fn format_taken<D: Disk>(disks: &mut TakenDisks<D>, row: &SessionRow) -> Result<(), CommandEnd>
+fn format_taken<D: Disk>(disks: &mut Trio<D>, row: &SessionRow) -> Result<(), CommandEnd>
     requires lawful { IsLawfulRow row.now }
     ensures empty { OnOk result (HasBytes D.told (λ role. []) disks.old) }
     ensures new { OnOk result (HasBytes D.told (λ role. new_bytes row.now role 0) disks.new) }

@@ -14,8 +14,7 @@ ghost use Rattle.commands.specs.Formatting.{IsDiskEnd};
 ghost use Rattle.command_ends.specs.Tables.{IsTableEnd};
 ghost use Rattle.commands.specs.LentDisks.{LeavesOtherPair, StopsAtShelf};
 ghost use Rattle.commands.specs.Migrating.{HasNoRows, AreRows, Migrates, MigratesTo, MovesTo, StopsMove, MigratesSo};
-ghost use Rattle.commands.specs.Migrating.{HaltsSo, counted, counted_line, halted, session_at, taken_of};
-ghost use Rattle.commands.specs.Migrating.{trio_of};
+ghost use Rattle.commands.specs.Migrating.{HaltsSo, counted, counted_line, halted, session_at};
 ghost use Rattle.commands.specs.TakenDisks.{AreReadAt, AreOutAt, RiseAt, CountOn, ReadOn, SpareOn};
 ghost use Rattle.command_ends.specs.declared.command_end.CommandEnd.TheVariants as ends;
 ghost use Rattle.command_ends.specs.declared.no_row.NoRow.{NoRow as NoRowCause};
@@ -29,7 +28,7 @@ use disk_model::{Disk, Shelf};
 use pump_frame::SessionRow;
 use pump_link::Sink;
 use recovery::{MoveFault, Trio, migrate};
-use script_replay::{TakenDisks, put_disks_back, take_disks};
+use script_replay::{put_disks_back, take_disks};
 use stable_buffer::RECEIVER_SIZE;
 use std::alloc::Global;
 
@@ -58,15 +57,15 @@ pub struct Halt {
 /// The disks of the session, and those that it is moved to, off the shelf.
 #[derive(Drop)]
 struct BothDisks<D> {
-    old: TakenDisks<D>,
-    new: TakenDisks<D>,
+    old: Trio<D>,
+    new: Trio<D>,
 }
 
 /// The disks after a move, and how it ended.
 #[derive(Drop)]
 struct Moved<D> {
-    old: TakenDisks<D>,
-    new: TakenDisks<D>,
+    old: Trio<D>,
+    new: Trio<D>,
     end: Result<Counts, MoveFault>,
 }
 
@@ -150,8 +149,8 @@ fn put_both_back<S: Shelf>(
     shelf: &mut S,
     session: u32,
     new_session: u32,
-    old: TakenDisks<S::Disk>,
-    new: TakenDisks<S::Disk>,
+    old: Trio<S::Disk>,
+    new: Trio<S::Disk>,
 )
     requires two { session ≡ new_session → ⊥ }
     requires old { (role : DiskRole) → IsOut (S.told.disk shelf.old (disk_name session role)) }
@@ -171,26 +170,6 @@ fn put_both_back<S: Shelf>(
     put_disks_back(shelf, new_session, new.low, new.high, new.recv);
 }
 
-fn trio<D>(disks: TakenDisks<D>) -> Trio<D>
-    ensures { result ≡ trio_of disks }
-{
-    Trio {
-        low: disks.low,
-        high: disks.high,
-        recv: disks.recv,
-    }
-}
-
-fn taken<D>(disks: Trio<D>) -> TakenDisks<D>
-    ensures { result ≡ taken_of disks }
-{
-    TakenDisks {
-        low: disks.low,
-        high: disks.high,
-        recv: disks.recv,
-    }
-}
-
 fn counted(end: Result<(u64, u64, u64), MoveFault>) -> Result<Counts, MoveFault>
     ensures { result ≡ counted end }
 {
@@ -206,8 +185,8 @@ fn counted(end: Result<(u64, u64, u64), MoveFault>) -> Result<Counts, MoveFault>
 fn move_disks<D: Disk>(
     row: &SessionRow,
     new_row: &SessionRow,
-    old: TakenDisks<D>,
-    new: TakenDisks<D>,
+    old: Trio<D>,
+    new: Trio<D>,
 ) -> Moved<D>
     requires lawful { IsLawfulRow row.now }
     requires new_lawful { IsLawfulRow new_row.now }
@@ -220,10 +199,10 @@ fn move_disks<D: Disk>(
     ensures counts { CountOn D.told old result.old }
     ensures new_counts { CountOn D.told new result.new }
 {
-    let moved = migrate(row, new_row, trio(old), trio(new), RECEIVER_SIZE);
+    let moved = migrate(row, new_row, old, new, RECEIVER_SIZE);
     Moved {
-        old: taken(moved.old),
-        new: taken(moved.new),
+        old: moved.old,
+        new: moved.new,
         end: counted(moved.end),
     }
 }

@@ -20,7 +20,7 @@ use pump_frame::SessionRow;
 use pump_link::{Sink, Source};
 use pump_wrapper::{WrapEnd, wrap};
 use recovery::Trio;
-use script_replay::{TakenDisks, put_disks_back, take_disks};
+use script_replay::{put_disks_back, take_disks};
 use std::alloc::Global;
 use two_worlds::Stop;
 
@@ -65,11 +65,11 @@ fn wrap_disks<S: Shelf, I: Source>(
     ensures cause { HasEndCause IsWrapEnd (FailsAt S.told S.Disk.told shelf.old shelf.new row.now.id)
         (Rose (I.faults file.old) (I.faults file.new)) ⊥ result }
 {
-    let TakenDisks { low, high, recv } = match take_disks(shelf, row.id) {
+    let disks = match take_disks(shelf, row.id) {
         Ok(disks) => disks,
         Err(not_taken) => return untaken(not_taken),
     };
-    let wrapped = wrap(alloc, row, Trio { low, high, recv }, file);
+    let wrapped = wrap(alloc, row, disks, file);
     let Trio { low, high, recv } = wrapped.disks;
     put_disks_back(shelf, row.id, low, high, recv);
     end_of_wrap(wrapped.end)

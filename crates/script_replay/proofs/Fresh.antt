@@ -19,8 +19,8 @@ use Rattle.script_replay.specs.Lending.{ReadAt, AreOnShelf}
 use Rattle.script_replay.specs.Runners.{outcome_at, IsFresh, AllFresh, StartsFresh, FreshAfter, LeftAs, AllLeftAs}
 use Rattle.script_replay.specs.Sessions.{id_of, found_at, with_begun, HasComeTo, AllHaveComeTo}
 use Rattle.script_replay.specs.Shelves.{Places, disk_name, reading_in, reading_at, ReadsSessionAlike, ReadsAlike, LeavesOtherSessions, IsReadied, AreReadied}
-use Rattle.script_replay.specs.declared.outcome.Outcome.{Outcome}
-use Rattle.script_replay.specs.declared.outcome.Outcome.TheVariants as outcomes
+use Rattle.script_replay.specs.declared.outcome.LineOutcome.{LineOutcome}
+use Rattle.script_replay.specs.declared.outcome.LineOutcome.TheVariants as outcomes
 use Rattle.script_replay.specs.declared.session.Session.{Session}
 use Rattle.script_replay.specs.declared.session.Session.TheVariants as sessions
 use Rattle.script_replay.specs.declared.sessions.Sessions.{Sessions}
@@ -30,7 +30,7 @@ use Rattle.script_replay.proofs.Turns.{at_put}
 
 -- ---- an outcome of which nothing is said ----
 
-pub fresh_other : {D : Type 0} {g : Ghosts D} (d : Meaning D) (before now : Places) (s : Sessions D g) (outcome : Outcome) → (outcome ≡ outcomes.Applied → ⊥) → (outcome ≡ outcomes.Memory → ⊥) → FreshAfter d before now s outcome
+pub fresh_other : {D : Type 0} {g : Ghosts D} (d : Meaning D) (before now : Places) (s : Sessions D g) (outcome : LineOutcome) → (outcome ≡ outcomes.Applied → ⊥) → (outcome ≡ outcomes.Memory → ⊥) → FreshAfter d before now s outcome
 fresh_other d before now s outcomes.Applied apart none = absurd (apart refl)
 fresh_other d before now s outcomes.Memory apart none = absurd (none refl)
 fresh_other d before now s outcomes.Refused apart none = tt
@@ -82,7 +82,7 @@ module _ {D : Type 0} {g : Ghosts D} (d : Meaning D) where
       each roles.Recv = one roles.Recv recv recv_read recv_left
 
 -- one for whose disks memory was wanting: they come back as they were
-pub untaken_fresh : {D : Type 0} (g : Ghosts D) (d : Meaning D) (before now : Places) (id : ℕ) (outcome : Outcome) → ReadsAlike before now → StartsFresh {g = g} d before now id (Err outcome)
+pub untaken_fresh : {D : Type 0} (g : Ghosts D) (d : Meaning D) (before now : Places) (id : ℕ) (outcome : LineOutcome) → ReadsAlike before now → StartsFresh {g = g} d before now id (Err outcome)
 untaken_fresh g d before now id outcomes.Memory alike = λ role. alike (disk_name id role)
 untaken_fresh g d before now id outcomes.Applied alike = tt
 untaken_fresh g d before now id outcomes.Refused alike = tt
@@ -143,7 +143,7 @@ module _ {D : Type 0} {g : Ghosts D} (d : Meaning D) where
       | false ↦ λ e. stays_fresh before mid now number k (found_at k first) others (eqb-false k number e) (fresh k)
     ] refl
 
-    pub after_unbegun : (s : Sessions D g) → s.begun.items ≡ first → (outcome : Outcome) → (outcome ≡ outcomes.Applied → ⊥) → StartsFresh {g = g} d mid now number (Err outcome) → FreshAfter d before now s outcome
+    pub after_unbegun : (s : Sessions D g) → s.begun.items ≡ first → (outcome : LineOutcome) → (outcome ≡ outcomes.Applied → ⊥) → StartsFresh {g = g} d mid now number (Err outcome) → FreshAfter d before now s outcome
     after_unbegun s is outcomes.Applied apart h = absurd (apart refl)
     after_unbegun s is outcomes.Memory apart h = subst (λ (l : List (Session D g)). AllFresh d before now l) (sym is) (unbegun_fresh h)
     after_unbegun s is outcomes.Refused apart h = tt

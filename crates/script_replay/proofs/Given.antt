@@ -16,8 +16,8 @@ use Rattle.script_reader.specs.Transcript.{text}
 use Rattle.two_worlds.specs.declared.applied.Stop.{Stop}
 use Rattle.two_worlds.specs.declared.applied.Stop.TheVariants as stops
 use Rattle.script_replay.specs.declared.applying.Replaying.{Replaying}
-use Rattle.script_replay.specs.declared.outcome.Outcome.{Outcome}
-use Rattle.script_replay.specs.declared.outcome.Outcome.TheVariants as outcomes
+use Rattle.script_replay.specs.declared.outcome.LineOutcome.{LineOutcome}
+use Rattle.script_replay.specs.declared.outcome.LineOutcome.TheVariants as outcomes
 use Rattle.script_replay.specs.declared.session.Session.{Session}
 use Rattle.script_replay.specs.declared.sessions.Sessions.{Sessions}
 use Rattle.script_replay.specs.Applied.{LineGoes}
@@ -34,7 +34,7 @@ pub some_named : (line : Line) (number : ℕ) → session_in line ≡ Some numbe
 some_named line number named is = let none : None ≡ Some number = sym (ap session_in is) ∙ named in absurd (cc)
 
 -- of what is read of the disks before nothing is asked any more
-fresh_given : {D : Type 0} {g : Ghosts D} (d : Meaning D) (before now : Places) (s : Sessions D g) (outcome : Outcome) → (outcome ≡ outcomes.Applied → s.is_under_way ≡ true) → (outcome ≡ outcomes.Memory → ⊥) → FreshAfter d before now s outcome
+fresh_given : {D : Type 0} {g : Ghosts D} (d : Meaning D) (before now : Places) (s : Sessions D g) (outcome : LineOutcome) → (outcome ≡ outcomes.Applied → s.is_under_way ≡ true) → (outcome ≡ outcomes.Memory → ⊥) → FreshAfter d before now s outcome
 fresh_given d before now s outcomes.Applied way memory = λ off. absurd (cc (sym (way refl) ∙ off))
 fresh_given d before now s outcomes.Memory way memory = absurd (memory refl)
 fresh_given d before now s outcomes.Refused way memory = tt
@@ -48,7 +48,7 @@ module _ {S D : Type 0} {g : Ghosts D} (m : Holdings S) (d : Meaning D) (shelf :
   abbrev Moves : Type 0
   Moves = ((s : Begun) → StandsFor d t s → last.sessions.moment ≡ max first.sessions.moment (moment_of s)) × (last.sessions.is_under_way ≡ (first.sessions.is_under_way || not (stands_first line)))
 
-  module _ (outcome : Outcome) (moves : outcome ≡ outcomes.Applied → Moves) (stays : first.sessions.is_under_way ≡ true → last.sessions.is_under_way ≡ true)
+  module _ (outcome : LineOutcome) (moves : outcome ≡ outcomes.Applied → Moves) (stays : first.sessions.is_under_way ≡ true → last.sessions.is_under_way ≡ true)
       (does : d.tells → (r : Begun) → StandsFor d x r → GoesSo d r line t (held_of first.output) (held_of last.output) old new outcome)
       (alone : (s : RunningAlone) → StandsFor d x (Alone s) → GoesSo d (Alone s) line t (held_of first.output) (held_of last.output) old new outcome)
       (up : outcome ≡ outcomes.Applied → IsUp t) (memory : outcome ≡ outcomes.Memory → ⊥) (is_line : StopsByLine outcome)
@@ -83,7 +83,7 @@ module _ {S D : Type 0} {g : Ghosts D} (m : Holdings S) (d : Meaning D) (shelf :
   module _ (stop : Option Stop) (printed : List Event)
       (applies : d.tells → (r : Begun) → StandsFor d x r → SessionApplies d r line t printed stop)
       (alone : (s : RunningAlone) → StandsFor d x (Alone s) → SessionApplies d (Alone s) line t printed stop) where
-    pub given_printed : (id : ℕ) (outcome : Outcome) → id ≡ id_of t → outcome ≡ outcome_of id stop → StopsByLine outcome → Gathers (held_of first.output) (held_of last.output) old new (text printed)
+    pub given_printed : (id : ℕ) (outcome : LineOutcome) → id ≡ id_of t → outcome ≡ outcome_of id stop → StopsByLine outcome → Gathers (held_of first.output) (held_of last.output) old new (text printed)
         → (stop ≡ None → IsUp t) → ((role : Role) (count : ℕ) → stop ≡ Some (stops.Device role count) → FailedWith d x t role)
         → (outcome ≡ outcomes.Applied → Moves) → (first.sessions.is_under_way ≡ true → last.sessions.is_under_way ≡ true) → LineGoes m d shelf shelf first last old new line outcome
     given_printed id outcome same is by_line gathers up failed moves stays = given outcome moves stays

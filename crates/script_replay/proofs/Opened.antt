@@ -33,8 +33,8 @@ use Rattle.script_replay.specs.Sessions.{LendsNew}
 use Rattle.script_replay.specs.Runners.{fault_of, outcome_at, Begins, IsDeviceOutcomeOf, IsOfBeginning}
 use Rattle.script_replay.specs.declared.session.Session.{Session}
 use Rattle.script_replay.specs.declared.session.Session.TheVariants as sessions
-use Rattle.script_replay.specs.declared.outcome.Outcome.{Outcome}
-use Rattle.script_replay.specs.declared.outcome.Outcome.TheVariants as outcomes
+use Rattle.script_replay.specs.declared.outcome.LineOutcome.{LineOutcome}
+use Rattle.script_replay.specs.declared.outcome.LineOutcome.TheVariants as outcomes
 use Rattle.script_replay.proofs.Shelving.{read_in, rose_more, all_back, spares_so, readies_so, spared_by, left_by, counts_more, rises_more, out_still}
 
 -- ---- the session begins ----
@@ -234,7 +234,7 @@ if_err (Ok x) P Q h f = tt
 if_err (Err e) P Q h f = f e h
 
 -- a disk could not be taken off the shelf
-pub untaken_fails : {S D : Type 0} (m : Holdings S) (d : Meaning D) (old new : S) (id : ℕ) (role : Role) (fault : ShelfFault) (outcome : Outcome)
+pub untaken_fails : {S D : Type 0} (m : Holdings S) (d : Meaning D) (old new : S) (id : ℕ) (role : Role) (fault : ShelfFault) (outcome : LineOutcome)
     → (fault ≡ shelf.Memory → outcome ≡ outcomes.Memory) → (fault ≡ shelf.Failed → outcome ≡ outcomes.Stopped (faults.Device id role))
     → (fault ≡ shelf.Failed → Rose (m.disk_faults old) (m.disk_faults new)) → (fault ≡ shelf.Failed → IsNotGiven m (m.disk old) id role)
     → (number : ℕ) (other : Role) → IsDeviceOutcomeOf number other outcome → (number ≡ id) × FailsAt m d old new number other
@@ -245,10 +245,19 @@ untaken_fails m d old new id role shelf.Failed outcome memory failed rose asked 
       (rose refl, inl (subst (λ (r : Role). IsNotGiven m (m.disk old) number r) same.1 (subst (λ (n : ℕ). IsNotGiven m (m.disk old) n role) same.0 (asked refl)))),
     )
 
-pub never_refused : (id : ℕ) (role : Role) (why : Option Why) (outcome : Outcome) → outcome ≡ outcome_at id role why → outcome ≡ outcomes.Refused → ⊥
+pub untaken_unprinted : (id : ℕ) (role : Role) (fault : ShelfFault) (outcome : LineOutcome) → (fault ≡ shelf.Memory → outcome ≡ outcomes.Memory) → (fault ≡ shelf.Failed → outcome ≡ outcomes.Stopped (faults.Device id role)) → IsOfBeginning outcome
+untaken_unprinted id role shelf.Memory outcome memory failed = subst IsOfBeginning (sym (memory refl)) tt
+untaken_unprinted id role shelf.Failed outcome memory failed = subst IsOfBeginning (sym (failed refl)) tt
+
+pub untaken_unrefused : (id : ℕ) (role : Role) (fault : ShelfFault) (outcome : LineOutcome) → (fault ≡ shelf.Memory → outcome ≡ outcomes.Memory) → (fault ≡ shelf.Failed → outcome ≡ outcomes.Stopped (faults.Device id role))
+    → outcome ≡ outcomes.Refused → ⊥
+untaken_unrefused id role shelf.Memory outcome memory failed e = let is = memory refl in cc
+untaken_unrefused id role shelf.Failed outcome memory failed e = let is = failed refl in cc
+
+pub never_refused : (id : ℕ) (role : Role) (why : Option Why) (outcome : LineOutcome) → outcome ≡ outcome_at id role why → outcome ≡ outcomes.Refused → ⊥
 never_refused id role None outcome is e = cc
 never_refused id role (Some why) outcome is e = cc
 
-pub of_beginning : (id : ℕ) (role : Role) (why : Option Why) (outcome : Outcome) → outcome ≡ outcome_at id role why → IsOfBeginning outcome
+pub of_beginning : (id : ℕ) (role : Role) (why : Option Why) (outcome : LineOutcome) → outcome ≡ outcome_at id role why → IsOfBeginning outcome
 of_beginning id role None outcome is = subst IsOfBeginning (sym is) tt
 of_beginning id role (Some why) outcome is = subst IsOfBeginning (sym is) tt

@@ -4,8 +4,8 @@ use Rattle.std.specs.Io.KnownBytes.{Appends}
 use Rattle.disk_model.specs.declared.disk.Disk.{Ghosts}
 use Rattle.pump_link.proofs.Known.{Appends-then}
 use Rattle.script_replay.specs.declared.sessions.Sessions.{Sessions}
-use Rattle.script_replay.specs.declared.outcome.Outcome.{Outcome}
-use Rattle.script_replay.specs.declared.outcome.Outcome.TheVariants as outcomes
+use Rattle.script_replay.specs.declared.outcome.LineOutcome.{LineOutcome}
+use Rattle.script_replay.specs.declared.outcome.LineOutcome.TheVariants as outcomes
 use Rattle.script_replay.specs.Outputs.{Gathers}
 use Rattle.script_replay.specs.Runners.{TurnIsQuiet}
 
@@ -24,7 +24,7 @@ pub by_way : (was is : Bool) → (was ≡ true → is ≡ true) → is ≡ false
 by_way true is h e = cc (sym (h refl) ∙ e)
 by_way false is h e = refl
 
-module _ {D : Type 0} {g : Ghosts D} (first then : Sessions D g) (held later : List ℕ) (a b c : Option (List ℕ)) (outcome : Outcome) (q : TurnIsQuiet first then held later b c outcome) (so : first.is_under_way ≡ false → (held ≡ []) × Appends a b []) where
+module _ {D : Type 0} {g : Ghosts D} (first then : Sessions D g) (held later : List ℕ) (a b c : Option (List ℕ)) (outcome : LineOutcome) (q : TurnIsQuiet first then held later b c outcome) (so : first.is_under_way ≡ false → (held ≡ []) × Appends a b []) where
   pub quiet_turn : outcome ≡ outcomes.Applied → then.is_under_way ≡ false → (later ≡ []) × Appends a c []
   quiet_turn applied way =
       let s = so (by_way first.is_under_way then.is_under_way q.waits way) in

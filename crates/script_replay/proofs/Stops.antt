@@ -32,8 +32,8 @@ use Rattle.script_replay.specs.Sessions.{StandsForRunning, HasComeTo, Lends, fou
 use Rattle.script_replay.specs.Runners.{Finds, AllFind, IsWhere, LentAt, AllLent, OthersLent, lent, TurnGoes, TurnStops, Closes, EndsAs, IsDeviceFaultAt, IsDeviceFaultOf, DeviceFails, IsLineFault}
 use Rattle.script_replay.specs.declared.session.Session.{Session}
 use Rattle.script_replay.specs.declared.session.Session.TheVariants as sessions
-use Rattle.script_replay.specs.declared.outcome.Outcome.{Outcome}
-use Rattle.script_replay.specs.declared.outcome.Outcome.TheVariants as outcomes
+use Rattle.script_replay.specs.declared.outcome.LineOutcome.{LineOutcome}
+use Rattle.script_replay.specs.declared.outcome.LineOutcome.TheVariants as outcomes
 use Rattle.script_replay.specs.declared.ended.Ended.{Ended}
 use Rattle.script_replay.specs.declared.ended.Ended.TheVariants as ended
 use Rattle.script_replay.proofs.Gathered.{appends_then, prefix_then, prefix_more}
@@ -256,7 +256,7 @@ module _ {D : Type 0} (g : Ghosts D) (d : Meaning D) (bef mid : Places) (begun :
       ]
 
   -- what it prints could not be written
-  pub cut_off : (new : Option (List ℕ)) (printed : List Event) (outcome : Outcome) → TurnGoes d bef mid t line begun printed outcome → AppendsPrefix now new (held ++ text printed) → WrotePrefix all old new (IsCutOff shelf rest before after)
+  pub cut_off : (new : Option (List ℕ)) (printed : List Event) (outcome : LineOutcome) → TurnGoes d bef mid t line begun printed outcome → AppendsPrefix now new (held ++ text printed) → WrotePrefix all old new (IsCutOff shelf rest before after)
   cut_off new printed outcomes.Applied (u, leads, stand, lends) p =
       let a = advance bef o all (to_come from left) lines events t line u printed s found leads in
       unprinted shelf a.openings all (to_come from left) (to_come to rest) rest old now new before after lines events printed t u line n.0 held a.so_far few n.1 n.2 n.3 a.leads

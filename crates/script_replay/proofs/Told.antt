@@ -25,8 +25,8 @@ use Rattle.two_worlds.specs.declared.pump.Pump.{Pump}
 use Rattle.script_replay.specs.declared.session.Session.{Session}
 use Rattle.script_replay.specs.declared.session.Session.TheVariants as sessions
 use Rattle.script_replay.specs.declared.sessions.Sessions.{Sessions}
-use Rattle.script_replay.specs.declared.outcome.Outcome.{Outcome}
-use Rattle.script_replay.specs.declared.outcome.Outcome.TheVariants as outcomes
+use Rattle.script_replay.specs.declared.outcome.LineOutcome.{LineOutcome}
+use Rattle.script_replay.specs.declared.outcome.LineOutcome.TheVariants as outcomes
 use Rattle.script_replay.specs.Replays.{IsNear}
 use Rattle.script_replay.specs.Runners.{outcome_of, GoesSo, IsDeviceOutcomeOf}
 use Rattle.script_replay.specs.Sessions.{id_of, is_coarse, StandsFor, StandsForRunning, SessionApplies, GoesOnWith, found_at, with_begun}
@@ -135,7 +135,7 @@ module _ {D : Type 0} {g : Ghosts D} (d : Meaning D) where
       }
 
   -- none begins
-  pub unbegun_made : (s : Sessions D g) (lines : List Line) (line : Line) (outcome : Outcome) → (outcome ≡ outcomes.Applied → ⊥) → ((number : ℕ) (role : Role) → IsDeviceOutcomeOf number role outcome → found_at number s.begun.items ≡ None)
+  pub unbegun_made : (s : Sessions D g) (lines : List Line) (line : Line) (outcome : LineOutcome) → (outcome ≡ outcomes.Applied → ⊥) → ((number : ℕ) (role : Role) → IsDeviceOutcomeOf number role outcome → found_at number s.begun.items ≡ None)
       → GoesAsTold d s lines line outcome
   unbegun_made s lines line outcome apart none = record {
     applied = λ e. absurd (apart e);
@@ -182,7 +182,7 @@ module _ {D : Type 0} {g : Ghosts D} (d : Meaning D) where
 
   -- ---- a line of one that runs ----
 
-  module _ (line : Line) (some : line ≢ kinds.Skip) (held later : List ℕ) (old new : Option (List ℕ)) (outcome : Outcome) where
+  module _ (line : Line) (some : line ≢ kinds.Skip) (held later : List ℕ) (old new : Option (List ℕ)) (outcome : LineOutcome) where
     -- it leads on
     goes_on : (way : Bool) (s : RunningAlone) (t : Session D g) (lines : List Line) (printed : List Event) → way ≡ true → LeadTo new_disks None lines (Some (Alone s)) printed
         → (more : List Event) (stop : Option Stop) → SessionApplies d (Alone s) line t more stop → outcome ≡ outcome_of (id_of t) stop → outcome ≡ outcomes.Applied → IsMadeBy d way (Some t) (lines ++ line ∷ [])

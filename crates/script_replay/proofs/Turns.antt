@@ -28,8 +28,8 @@ use Rattle.two_worlds.specs.declared.applied.Stop.TheVariants as stops
 use Rattle.script_replay.specs.declared.session.Session.{Session}
 use Rattle.script_replay.specs.declared.session.Session.TheVariants as sessions
 use Rattle.script_replay.specs.declared.sessions.Sessions.{Sessions}
-use Rattle.script_replay.specs.declared.outcome.Outcome.{Outcome}
-use Rattle.script_replay.specs.declared.outcome.Outcome.TheVariants as outcomes
+use Rattle.script_replay.specs.declared.outcome.LineOutcome.{LineOutcome}
+use Rattle.script_replay.specs.declared.outcome.LineOutcome.TheVariants as outcomes
 use Rattle.script_replay.specs.Failing.{FailsAt}
 use Rattle.script_replay.specs.Lending.{IsOutAt}
 use Rattle.script_replay.specs.Shelves.{Places, disk_name, reading_in, reading_at, HasFound, IsRefusedFor, LeavesSession, LeavesOtherSessions, SparesSession, ReadiesSession, AllAreBack}
@@ -52,7 +52,7 @@ finds_same before (Alone s) line after printed o (timely, (q, step, is)) h = sub
 leads_on : (before : Places) (line : Line) → line ≢ lines.Skip → (s : Begun) (after : Option Begun) (printed : List Event) → GoesOn s line after printed → LeadsFrom before (Some s) line after printed
 leads_on before line some s after printed h = λ o found new. (leads_from o s line after printed some h, finds_same before s line after printed o h found)
 
-pub gone_on : {D : Type 0} {g : Ghosts D} (d : Meaning D) (t : Session D g) (s : Begun) (line : Line) (printed : List Event) (stop : Option Stop) (held later : List ℕ) (old new : Option (List ℕ)) (outcome : Outcome) (id : ℕ)
+pub gone_on : {D : Type 0} {g : Ghosts D} (d : Meaning D) (t : Session D g) (s : Begun) (line : Line) (printed : List Event) (stop : Option Stop) (held later : List ℕ) (old new : Option (List ℕ)) (outcome : LineOutcome) (id : ℕ)
     → SessionApplies d s line t printed stop → Gathers held later old new (text printed) → id ≡ id_of t → outcome ≡ outcome_of id stop → GoesSo d s line t held later old new outcome
 gone_on d t s line printed stop held later old new outcome id h w same is =
     (printed, stop, h, inl (is ∙ ap (λ (i : ℕ). outcome_of i stop) same, w))
@@ -63,7 +63,7 @@ pub not_written : {D : Type 0} {g : Ghosts D} (d : Meaning D) (t : Session D g) 
 not_written d t s line printed stop held later old new h p = (printed, stop, h, inr (refl, p))
 
 -- it is up unless it stops
-pub up_so : {D : Type 0} {g : Ghosts D} (t : Session D g) (id : ℕ) (stop : Option Stop) (outcome : Outcome) → (stop ≡ None → IsUp t) → outcome ≡ outcome_of id stop → outcome ≡ outcomes.Applied → IsUp t
+pub up_so : {D : Type 0} {g : Ghosts D} (t : Session D g) (id : ℕ) (stop : Option Stop) (outcome : LineOutcome) → (stop ≡ None → IsUp t) → outcome ≡ outcome_of id stop → outcome ≡ outcomes.Applied → IsUp t
 up_so t id None outcome up is e = up refl
 up_so t id (Some stops.Line) outcome up is e = cc
 up_so t id (Some (stops.Device role count)) outcome up is e = cc
@@ -71,7 +71,7 @@ up_so t id (Some (stops.Full end length size)) outcome up is e = cc
 up_so t id (Some (stops.Disk role why)) outcome up is e = cc
 
 -- memory is not wanting
-pub remembers : (id : ℕ) (stop : Option Stop) (outcome : Outcome) → outcome ≡ outcome_of id stop → outcome ≡ outcomes.Memory → ⊥
+pub remembers : (id : ℕ) (stop : Option Stop) (outcome : LineOutcome) → outcome ≡ outcome_of id stop → outcome ≡ outcomes.Memory → ⊥
 remembers id None outcome is e = cc
 remembers id (Some stops.Line) outcome is e = cc
 remembers id (Some (stops.Device role count)) outcome is e = cc
@@ -79,7 +79,7 @@ remembers id (Some (stops.Full end length size)) outcome is e = cc
 remembers id (Some (stops.Disk role why)) outcome is e = cc
 
 -- it stops for a device
-pub failed_so : {D : Type 0} {g : Ghosts D} (d : Meaning D) (s t : Session D g) (id : ℕ) (stop : Option Stop) (outcome : Outcome) → ((role : Role) (count : ℕ) → stop ≡ Some (stops.Device role count) → FailedWith d s t role)
+pub failed_so : {D : Type 0} {g : Ghosts D} (d : Meaning D) (s t : Session D g) (id : ℕ) (stop : Option Stop) (outcome : LineOutcome) → ((role : Role) (count : ℕ) → stop ≡ Some (stops.Device role count) → FailedWith d s t role)
     → id ≡ id_of t → outcome ≡ outcome_of id stop → (number : ℕ) (role : Role) → IsDeviceOutcomeOf number role outcome → (id_of t ≡ number) × FailedWith d s t role
 failed_so d s t id None outcome failed same is number role h = absurd (subst (IsDeviceOutcomeOf number role) is h)
 failed_so d s t id (Some stops.Line) outcome failed same is number role h = absurd (subst (IsDeviceOutcomeOf number role) is h)
@@ -290,7 +290,7 @@ module _ {D : Type 0} {g : Ghosts D} (d : Meaning D) (line : Line) (number place
       goes_so printed (Some (stops.Full end n size)) h = stops_so printed (faults.Full (id_of t) end n size) h.0 h.1 h.2
 
       -- what this line leads on is kept in step
-      abbrev Moves : Outcome → Type 0
+      abbrev Moves : LineOutcome → Type 0
       Moves outcome = outcome ≡ outcomes.Applied → ((s : Begun) → StandsFor d t s → last.moment ≡ max first.moment (moment_of s)) × (last.is_under_way ≡ (first.is_under_way || not (stands_first line)))
 
       does_stop : (held later : List ℕ) (old new : Option (List ℕ)) (printed : List Event) (stop : Option Stop) → SessionApplies d r line t printed stop → Gathers held later old new (text printed)
@@ -303,12 +303,12 @@ module _ {D : Type 0} {g : Ghosts D} (d : Meaning D) (line : Line) (number place
       does_stop held later old new printed (Some (stops.Disk role why)) h w moves = absurd h
       does_stop held later old new printed (Some (stops.Full end n size)) h w moves = (printed, goes_so printed (Some (stops.Full end n size)) h, w)
 
-      does_so : (held later : List ℕ) (old new : Option (List ℕ)) (outcome : Outcome) → Moves outcome → GoesSo d r line t held later old new outcome → TurnDoes d before now script line last held later old new outcome
+      does_so : (held later : List ℕ) (old new : Option (List ℕ)) (outcome : LineOutcome) → Moves outcome → GoesSo d r line t held later old new outcome → TurnDoes d before now script line last held later old new outcome
       does_so held later old new outcome moves (printed, stop, h, inl (is, w)) =
-          subst (λ (o : Outcome). TurnDoes d before now script line last held later old new o) (sym is)
+          subst (λ (o : LineOutcome). TurnDoes d before now script line last held later old new o) (sym is)
           (does_stop held later old new printed stop h w (subst Moves is moves))
       does_so held later old new outcome moves (printed, stop, h, inr (is, p)) =
-          subst (λ (o : Outcome). TurnDoes d before now script line last held later old new o) (sym is) (printed, outcome_of (id_of t) stop, goes_so printed stop h, p)
+          subst (λ (o : LineOutcome). TurnDoes d before now script line last held later old new o) (sym is) (printed, outcome_of (id_of t) stop, goes_so printed stop h, p)
 
       -- the line makes it coarse
       coarsens : (session : ℕ) → line ≡ lines.Coarse session → is_coarse x ≡ false → StandsFor d x r → LeadsFrom before (Some r) line (Some (made_coarse r)) []
@@ -334,7 +334,7 @@ module _ {D : Type 0} {g : Ghosts D} (d : Meaning D) (line : Line) (number place
 
     -- what the line does
     module _ (before now : Places) (lends : AllLend d before now first.begun.items) (script : Script) (stand : AllStandFor d first script) (turn : is_in_turn script line ≡ true) (some : line ≢ lines.Skip) where
-      pub line_does : (held later : List ℕ) (old new : Option (List ℕ)) (outcome : Outcome)
+      pub line_does : (held later : List ℕ) (old new : Option (List ℕ)) (outcome : LineOutcome)
           → (outcome ≡ outcomes.Applied → ((s : Begun) → StandsFor d t s → last.moment ≡ max first.moment (moment_of s)) × (last.is_under_way ≡ (first.is_under_way || not (stands_first line))))
           → ((r : Begun) → StandsFor d x r → GoesSo d r line t held later old new outcome) → TurnDoes d before now script line last held later old new outcome
       line_does held later old new outcome moves goes_on =
@@ -516,7 +516,7 @@ module _ {D : Type 0} {g : Ghosts D} (d : Meaning D) (line : Line) (number place
             cause = not_opened_before before mid row (subst (λ (k : ℕ). LeavesSession before mid k) (sym id) home) now fault cause;
           }
 
-      pub not_begun : (outcome : Outcome) → Begins {g = g} d mid now line (Err outcome) → (outcome ≡ outcomes.Refused → now ≡ mid) → BeginDoes d before now script line first outcome
+      pub not_begun : (outcome : LineOutcome) → Begins {g = g} d mid now line (Err outcome) → (outcome ≡ outcomes.Refused → now ≡ mid) → BeginDoes d before now script line first outcome
       not_begun outcomes.Applied h same = absurd h
       not_begun outcomes.Unwritten h same = absurd h
       not_begun outcomes.Memory h same = stand.each
@@ -575,7 +575,7 @@ module _ {D : Type 0} {g : Ghosts D} (d : Meaning D) (line : Line) (number place
         )
 
 -- nothing was printed
-pub begin_turn : {D : Type 0} {g : Ghosts D} (d : Meaning D) (before now : Places) (t : Script) (line : Line) (s : Sessions D g) (held : List ℕ) (a : Option (List ℕ)) (outcome : Outcome) → BeginDoes d before now t line s outcome
+pub begin_turn : {D : Type 0} {g : Ghosts D} (d : Meaning D) (before now : Places) (t : Script) (line : Line) (s : Sessions D g) (held : List ℕ) (a : Option (List ℕ)) (outcome : LineOutcome) → BeginDoes d before now t line s outcome
     → TurnDoes d before now t line s held held a a outcome
 begin_turn d before now t line s held a outcomes.Applied h = (([], h.0, gathers_none held a), h.1)
 begin_turn d before now t line s held a outcomes.Refused h = ([], h, gathers_none held a)

@@ -38,8 +38,8 @@ use Rattle.script_replay.specs.Replays.{IsOverfilled, IsCutOff, Wrote, WrotePref
 use Rattle.script_replay.specs.declared.session.Session.{Session}
 use Rattle.script_replay.specs.declared.session.Session.TheVariants as sessions
 use Rattle.script_replay.specs.declared.sessions.Sessions.{Sessions}
-use Rattle.script_replay.specs.declared.outcome.Outcome.{Outcome}
-use Rattle.script_replay.specs.declared.outcome.Outcome.TheVariants as outcomes
+use Rattle.script_replay.specs.declared.outcome.LineOutcome.{LineOutcome}
+use Rattle.script_replay.specs.declared.outcome.LineOutcome.TheVariants as outcomes
 use Rattle.script_replay.specs.declared.ended.Ended.{Ended}
 use Rattle.script_replay.specs.declared.ended.Ended.TheVariants as ended
 
@@ -68,18 +68,18 @@ IsLineFault (faults.Full session end size_of_message size) = Unit {0}
 IsLineFault fault = ⊥
 
 -- only with such a fault does a line that can be applied stop a script
-abbrev pub StopsByLine : Outcome → Type 0
+abbrev pub StopsByLine : LineOutcome → Type 0
 StopsByLine (outcomes.Stopped fault) = IsLineFault fault
 StopsByLine outcome = Unit {0}
 
 -- a line that begins no session has this outcome, and prints nothing
-abbrev pub IsOfBeginning : Outcome → Type 0
+abbrev pub IsOfBeginning : LineOutcome → Type 0
 IsOfBeginning outcomes.Applied = ⊥
 IsOfBeginning outcomes.Unwritten = ⊥
 IsOfBeginning outcome = Unit {0}
 
 -- what becomes of a line by why it stops the session of this number, if it does
-abbrev pub outcome_of : ℕ → Option Stop → Outcome
+abbrev pub outcome_of : ℕ → Option Stop → LineOutcome
 outcome_of id None = outcomes.Applied
 outcome_of id (Some stops.Line) = outcomes.Refused
 outcome_of id (Some (stops.Device role count)) = outcomes.Stopped (faults.Device id role)
@@ -88,7 +88,7 @@ outcome_of id (Some (stops.Disk role why)) = outcomes.Stopped (faults.Disk id ro
     (why_values why).1)
 
 -- .. of a line that is to begin the session, by why its disks are not opened
-abbrev pub outcome_at : ℕ → Role → Option Why → Outcome
+abbrev pub outcome_at : ℕ → Role → Option Why → LineOutcome
 outcome_at id role None = outcomes.Memory
 outcome_at id role (Some why) = outcomes.Stopped (fault_of id role why)
 
@@ -179,7 +179,8 @@ IsNotOpened before now row fault = ((role : Role) × (fault ≡ faults.Device ro
     × IsRefusedFor before row role why × ReadiesSession before now row)
 
 -- a line where its session isn't there: the session that it begins, or why it begins none
-abbrev pub Begins : {D : Type 0} {g : _} → Meaning D → Places → Places → Line → Result (Session D g) Outcome → Type 0
+abbrev pub Begins : {D : Type 0} {g : _} → Meaning D → Places → Places → Line → Result (Session D g) LineOutcome
+    → Type 0
 Begins d before now line (Ok session) = (after : Begun) × LeadsFrom before None line (Some after) []
     × StandsFor d session after
 Begins d before now line (Err outcomes.Refused) = IsRefused None line
@@ -190,13 +191,14 @@ Begins d before now line (Err outcomes.Applied) = ⊥
 Begins d before now line (Err outcomes.Unwritten) = ⊥
 
 -- so of the disks of this number after a line that was to begin its session
-abbrev pub StartsFresh : {D : Type 0} {g : _} → Meaning D → Places → Places → ℕ → Result (Session D g) Outcome → Type 0
+abbrev pub StartsFresh : {D : Type 0} {g : _} → Meaning D → Places → Places → ℕ → Result (Session D g) LineOutcome
+    → Type 0
 StartsFresh d before now number (Ok session) = IsFresh d before now number (Some session)
 StartsFresh d before now number (Err outcomes.Memory) = ReadsSessionAlike before now number
 StartsFresh d before now number (Err outcome) = Unit {0}
 
 -- .. and of all disks after a line
-abbrev pub FreshAfter : {D : Type 0} {g : _} → Meaning D → Places → Places → Sessions D g → Outcome → Type 0
+abbrev pub FreshAfter : {D : Type 0} {g : _} → Meaning D → Places → Places → Sessions D g → LineOutcome → Type 0
 FreshAfter d before now sessions outcomes.Applied = sessions.is_under_way ≡ false
     → AllFresh d before now sessions.begun.items
 FreshAfter d before now sessions outcomes.Memory = AllFresh d before now sessions.begun.items
@@ -205,7 +207,7 @@ FreshAfter d before now sessions outcome = Unit {0}
 -- a line of the running session, which leaves it as this: what it prints was added to what was held, or could not be
 -- written
 abbrev pub GoesSo : {D : Type 0} {g : _} → Meaning D → Begun → Line → Session D g → List ℕ → List ℕ → Option (List ℕ)
-    → Option (List ℕ) → Outcome → Type 0
+    → Option (List ℕ) → LineOutcome → Type 0
 GoesSo d running line session held later old new outcome =
     (printed : List Event) × (stop : Option Stop) × SessionApplies d running line session printed stop
     × (((outcome ≡ outcome_of (id_of session) stop) × Gathers held later old new (text printed))
@@ -236,7 +238,7 @@ TurnStops d before now t line begun printed fault =
 
 -- a line that prints this leads on, can't be applied, or stops the script
 abbrev pub TurnGoes : {D : Type 0} {g : _} → Meaning D → Places → Places → Script → Line → List (Session D g)
-    → List Event → Outcome → Type 0
+    → List Event → LineOutcome → Type 0
 TurnGoes d before now t line begun printed outcomes.Applied =
     (u : Script) × OneLeadsFrom before t line (session_in line) u printed × EachStandsFor d begun u.begun
     × AllLend d before now begun
@@ -252,7 +254,7 @@ IsInStep sessions u = (sessions.moment ≡ u.moment) × (sessions.is_under_way �
 
 -- a line where its session isn't there, or one that stands first: it prints nothing; where memory is wanting the
 -- sessions are those before it
-abbrev pub BeginDoes : {D : Type 0} {g : _} → Meaning D → Places → Places → Script → Line → Sessions D g → Outcome
+abbrev pub BeginDoes : {D : Type 0} {g : _} → Meaning D → Places → Places → Script → Line → Sessions D g → LineOutcome
     → Type 0
 BeginDoes d before now t line sessions outcomes.Applied = (goes : TurnGoes d before now t line sessions.begun.items []
     outcomes.Applied) × IsInStep sessions goes.0
@@ -265,7 +267,7 @@ BeginDoes d before now t line sessions outcomes.Unwritten = ⊥
 
 -- it goes so, and what it prints was added to what was held
 abbrev pub Adds : {D : Type 0} {g : _} → Meaning D → Places → Places → Script → Line → List (Session D g) → List ℕ
-    → List ℕ → Option (List ℕ) → Option (List ℕ) → Outcome → Type 0
+    → List ℕ → Option (List ℕ) → Option (List ℕ) → LineOutcome → Type 0
 Adds d before now t line begun held later old new outcome =
     (printed : List Event) × TurnGoes d before now t line begun printed outcome
     × Gathers held later old new (text printed)
@@ -273,9 +275,9 @@ Adds d before now t line begun held later old new outcome =
 -- so, or what was held and what it prints could not be written; of a line for which memory is wanting see
 -- `TurnIsQuiet` and `FreshAfter` too
 abbrev pub TurnDoes : {D : Type 0} {g : _} → Meaning D → Places → Places → Script → Line → Sessions D g → List ℕ
-    → List ℕ → Option (List ℕ) → Option (List ℕ) → Outcome → Type 0
+    → List ℕ → Option (List ℕ) → Option (List ℕ) → LineOutcome → Type 0
 TurnDoes d before now t line sessions held later old new outcomes.Unwritten =
-    (printed : List Event) × (outcome : Outcome) × TurnGoes d before now t line sessions.begun.items printed outcome
+    (printed : List Event) × (outcome : LineOutcome) × TurnGoes d before now t line sessions.begun.items printed outcome
     × AppendsPrefix old new (held ++ text printed)
 TurnDoes d before now t line sessions held later old new outcomes.Applied =
     (adds : Adds d before now t line sessions.begun.items held later old new outcomes.Applied)
@@ -288,7 +290,7 @@ TurnDoes d before now t line sessions held later old new (outcomes.Stopped fault
 
 -- before any line came that needs not stand first nothing is printed, and only then is memory wanting
 pub record TurnIsQuiet {D : Type 0} {g : _} (first then : Sessions D g) (held later : List ℕ)
-    (old new : Option (List ℕ)) (outcome : Outcome) : Type 0 where
+    (old new : Option (List ℕ)) (outcome : LineOutcome) : Type 0 where
   pub waits : first.is_under_way ≡ true → then.is_under_way ≡ true
   pub quiet : outcome ≡ outcomes.Applied → then.is_under_way ≡ false → (later ≡ held) × (new ≡ old)
   pub memory : outcome ≡ outcomes.Memory → (first.is_under_way ≡ false) × (later ≡ held) × (new ≡ old)
@@ -360,7 +362,7 @@ abbrev pub IsDeviceFaultAt : ℕ → Role → Fault → Type 0
 IsDeviceFaultAt number role (faults.Device session other) = (session ≡ number) × (other ≡ role)
 IsDeviceFaultAt number role fault = ⊥
 
-abbrev pub IsDeviceOutcomeOf : ℕ → Role → Outcome → Type 0
+abbrev pub IsDeviceOutcomeOf : ℕ → Role → LineOutcome → Type 0
 IsDeviceOutcomeOf number role (outcomes.Stopped fault) = IsDeviceFaultAt number role fault
 IsDeviceOutcomeOf number role outcome = ⊥
 

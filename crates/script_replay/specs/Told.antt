@@ -13,8 +13,8 @@ use Rattle.script_reader.specs.Sessions.{lines_of}
 use Rattle.script_replay.specs.declared.session.Session.{Session}
 use Rattle.script_replay.specs.declared.session.Session.TheVariants as sessions
 use Rattle.script_replay.specs.declared.sessions.Sessions.{Sessions}
-use Rattle.script_replay.specs.declared.outcome.Outcome.{Outcome}
-use Rattle.script_replay.specs.declared.outcome.Outcome.TheVariants as outcomes
+use Rattle.script_replay.specs.declared.outcome.LineOutcome.{LineOutcome}
+use Rattle.script_replay.specs.declared.outcome.LineOutcome.TheVariants as outcomes
 use Rattle.script_replay.specs.Sessions.{StandsFor, found_at}
 use Rattle.script_replay.specs.Replays.{IsNear}
 use Rattle.script_replay.specs.Runners.{IsDeviceOutcomeOf}
@@ -74,7 +74,7 @@ IfAlone (Some (sessions.Alone id p)) P = P
 
 -- after these lines the next one leads the sessions to these; where it stops a low side alone for a device, it tells so
 pub record GoesAsTold {D : Type 0} {g : _} (d : Meaning D) (s : Sessions D g) (lines : List Line) (line : Line)
-    (outcome : Outcome) : Type 0 where
+    (outcome : LineOutcome) : Type 0 where
   pub applied : outcome ≡ outcomes.Applied → AllAreMadeBy d s (lines ++ line ∷ [])
   pub stopped : (number : ℕ) (role : Role) → IsDeviceOutcomeOf number role outcome
       → IfAlone (found_at number s.begun.items) (StopsAsTold lines line number)

@@ -1,25 +1,20 @@
 //! A line of a script: of the session that it names, or that it begins.
 
-ghost use Rattle.std.specs.Prelude.{◌≡◌, ◌≢◌, ◌≤◌, ℕ, true, false, List, Option, [], ◌∷◌, None, Some, IfOk, IfErr};
-ghost use Rattle.disk_model.specs.declared.name.Role.{Role as DiskRole};
+ghost use Rattle.std.specs.Prelude.{◌≡◌, ◌≢◌, ◌≤◌, ℕ, true, false, List, Option, [], ◌∷◌, Some, IfOk, IfErr};
 ghost use Rattle.pump_frame.specs.Counts.{Rose};
 ghost use Rattle.pump_frame.specs.Rows.{IsLawfulRow};
 ghost use Rattle.script_reader.specs.Grammar.{IsCount};
 ghost use Rattle.script_reader.specs.Lawful.{IsLawfulLine};
 ghost use Rattle.script_reader.specs.Heads.{line_with, CanHoldLine};
-ghost use Rattle.script_reader.specs.Sessions.{no_sessions, session_in, begins_session as begins};
-ghost use Rattle.script_reader.specs.Sessions.{stands_first as is_first};
-ghost use Rattle.script_replay.specs.Sessions.{id_of, IsUp, LendsNew, AreInOrder, AllStandFor};
-ghost use Rattle.script_replay.specs.Failing.{FailsAt};
-ghost use Rattle.script_replay.specs.Shelves.{Places, AllAreBack, LeavesOtherSessions};
-ghost use Rattle.script_replay.specs.Outputs.{held_of};
-ghost use Rattle.script_replay.specs.Applied.{ComesFor, LineGoes};
-ghost use Rattle.script_replay.specs.Runners.{AllAreUp, outcome_of, outcome_at, Begins};
-ghost use Rattle.script_replay.specs.Runners.{StartsFresh, StopsByLine, IsOfBeginning, IsDeviceOutcomeOf};
+ghost use Rattle.script_reader.specs.Sessions.{session_in, stands_first as is_first};
+ghost use Rattle.script_replay.specs.Sessions.{AreInOrder};
+ghost use Rattle.script_replay.specs.Shelves.{Places, LeavesOtherSessions};
+ghost use Rattle.script_replay.specs.Applied.{BeginsNoSession, ComesFor, IsBeforeLines, IsBegunBy, LineGoes};
+ghost use Rattle.script_replay.specs.Runners.{AllAreUp, outcome_of, outcome_at, Begins, StartsFresh};
 ghost use Rattle.script_replay.specs.Told.{IsMadeBy};
 
 use crate::disks::{put_disks_back, take_disks};
-use crate::outcome::{Outcome, outcome_at, outcome_of, untaken};
+use crate::outcome::{LineOutcome, outcome_at, outcome_of, untaken};
 use crate::output::Output;
 use crate::session::Session;
 use crate::sessions::Sessions;
@@ -43,10 +38,7 @@ pub struct Replaying<D: Disk> {
 impl<D: Disk> Replaying<D> {
     /// No line has come yet.
     pub fn new(alloc: Global) -> Result<Replaying<D>, AllocError>
-        ensures none { IfOk result (λ replaying. replaying.sessions.begun.items ≡ []) }
-        ensures stands { IfOk result (λ replaying. AllStandFor D.told replaying.sessions no_sessions) }
-        ensures order { IfOk result (λ replaying. AreInOrder replaying.sessions) }
-        ensures unheld { IfOk result (λ replaying. held_of replaying.output ≡ []) }
+        ensures { IfOk result (λ replaying. IsBeforeLines D.told replaying) }
     {
         Ok(Replaying {
             alloc,
@@ -63,22 +55,18 @@ fn begin_whole<S: Shelf>(
     alloc: Global,
     row: &SessionRow,
     shelf: &mut S,
-) -> Result<Session<S::Disk>, Outcome>
+) -> Result<Session<S::Disk>, LineOutcome>
     requires lawful { IsLawfulRow row.now }
     ensures begins { S.told.tells → S.Disk.told.tells
         → Begins S.Disk.told (S.told.disk shelf.old) (S.told.disk shelf.new) (Line.Session row.now) result }
     ensures fresh { S.told.tells → S.Disk.told.tells
         → StartsFresh S.Disk.told (S.told.disk shelf.old) (S.told.disk shelf.new) row.now.id result }
-    ensures lends { IfOk result (λ session. LendsNew S.Disk.told (S.told.disk shelf.old) (S.told.disk shelf.new)
-        session) }
-    ensures up { IfOk result (λ session. IsUp session) }
-    ensures id { IfOk result (λ session. id_of session ≡ row.now.id) }
-    ensures back { IfErr result (λ outcome. S.told.tells → AllAreBack (S.told.disk shelf.old) (S.told.disk shelf.new)) }
+    ensures begun { IfOk result (λ session. IsBegunBy S.Disk.told (S.told.disk shelf.old) (S.told.disk shelf.new)
+        (Line.Session row.now) session) }
+    ensures unbegun { IfErr result (λ outcome. BeginsNoSession S.told S.Disk.told shelf.old shelf.new
+        (Line.Session row.now) outcome) }
+    ensures refused { IfErr result (λ outcome. outcome ≡ LineOutcome.Refused → ⊥) }
     ensures others { LeavesOtherSessions (S.told.disk shelf.old) (S.told.disk shelf.new) row.now.id }
-    ensures line { IfErr result (λ outcome. StopsByLine outcome × IsOfBeginning outcome) }
-    ensures refused { IfErr result (λ outcome. outcome ≡ Outcome.Refused → ⊥) }
-    ensures device { IfErr result (λ outcome. (number : ℕ) (role : DiskRole) → IsDeviceOutcomeOf number role outcome
-        → (number ≡ row.now.id) × FailsAt S.told S.Disk.told shelf.old shelf.new number role) }
     ensures later { S.told.disk_faults shelf.old ≤ S.told.disk_faults shelf.new }
     ensures made { (lines : List Line) → IfOk result (λ session. IsMadeBy S.Disk.told false (Some session) lines) }
 {
@@ -100,21 +88,20 @@ fn begin_alone<D: Disk>(
     row: &SessionRow,
     next: u64,
     held: bool,
-) -> Result<Session<D>, Outcome>
+) -> Result<Session<D>, LineOutcome>
     requires lawful { IsLawfulRow row.now }
     requires count { IsCount next held }
     ensures begins { (before : Places) → Begins D.told before before (Line.LowSession row.now next held) result }
     ensures fresh { (before : Places) → StartsFresh D.told before before row.now.id result }
-    ensures lends { (before : Places) → IfOk result (λ session. LendsNew D.told before before session) }
-    ensures up { IfOk result (λ session. IsUp session) }
-    ensures id { IfOk result (λ session. id_of session ≡ row.now.id) }
-    ensures memory { IfErr result (λ outcome. outcome ≡ Outcome.Memory) }
+    ensures begun { (before : Places) → IfOk result (λ session. IsBegunBy D.told before before
+        (Line.LowSession row.now next held) session) }
+    ensures memory { IfErr result (λ outcome. outcome ≡ LineOutcome.Memory) }
     ensures made { IfOk result (λ session. IsMadeBy D.told false (Some session)
         (Line.LowSession row.now next held ∷ [])) }
 {
     match Session::alone(alloc, row, next, held) {
         Ok(session) => Ok(session),
-        Err(_) => Err(Outcome::Memory),
+        Err(_) => Err(LineOutcome::Memory),
     }
 }
 
@@ -124,7 +111,7 @@ fn begin<S: Shelf>(
     shelf: &mut S,
     line: &LineHead,
     body: &Body,
-) -> Result<Session<S::Disk>, Outcome>
+) -> Result<Session<S::Disk>, LineOutcome>
     requires lawful { IsLawfulLine (line_with body.now line.now) }
     requires some { line_with body.now line.now ≢ Line.Skip }
     ensures begins { S.told.tells → S.Disk.told.tells
@@ -132,21 +119,12 @@ fn begin<S: Shelf>(
     ensures fresh { S.told.tells → S.Disk.told.tells → (number : ℕ) → session_in (line_with body.now line.now)
         ≡ Some number
         → StartsFresh S.Disk.told (S.told.disk shelf.old) (S.told.disk shelf.new) number result }
-    ensures lends { IfOk result (λ session. LendsNew S.Disk.told (S.told.disk shelf.old) (S.told.disk shelf.new)
-        session) }
-    ensures up { IfOk result (λ session. IsUp session) }
-    ensures id { IfOk result (λ session. session_in (line_with body.now line.now) ≡ Some (id_of session)) }
-    ensures first { IfOk result (λ session. begins (line_with body.now line.now) ≡ true) }
-    ensures back { IfErr result (λ outcome. S.told.tells → AllAreBack (S.told.disk shelf.old) (S.told.disk shelf.new)) }
+    ensures begun { IfOk result (λ session. IsBegunBy S.Disk.told (S.told.disk shelf.old) (S.told.disk shelf.new)
+        (line_with body.now line.now) session) }
+    ensures unbegun { IfErr result (λ outcome. BeginsNoSession S.told S.Disk.told shelf.old shelf.new
+        (line_with body.now line.now) outcome) }
     ensures others { (number : ℕ) → session_in (line_with body.now line.now) ≡ Some number
         → LeavesOtherSessions (S.told.disk shelf.old) (S.told.disk shelf.new) number }
-    ensures line { IfErr result (λ outcome. StopsByLine outcome × IsOfBeginning outcome) }
-    ensures memory { IfErr result (λ outcome. outcome ≡ Outcome.Memory → begins (line_with body.now line.now) ≡ true) }
-    ensures refused { IfErr result (λ outcome. outcome ≡ Outcome.Refused → S.told.disk shelf.new
-        ≡ S.told.disk shelf.old) }
-    ensures device { IfErr result (λ outcome. (number : ℕ) (role : DiskRole) → IsDeviceOutcomeOf number role outcome
-        → (session_in (line_with body.now line.now) ≡ Some number)
-        × FailsAt S.told S.Disk.told shelf.old shelf.new number role) }
     ensures later { S.told.disk_faults shelf.old ≤ S.told.disk_faults shelf.new }
     ensures made { IfOk result (λ session. IsMadeBy S.Disk.told false (Some session)
         (line_with body.now line.now ∷ [])) }
@@ -156,13 +134,13 @@ fn begin<S: Shelf>(
     match line {
         LineHead::Session(row) => match row.first_bad() {
             None => begin_whole(alloc, row, shelf),
-            Some(_) => Err(Outcome::Refused),
+            Some(_) => Err(LineOutcome::Refused),
         },
         LineHead::LowSession { row, next, held } => match row.first_bad() {
             None => begin_alone(alloc, row, *next, *held),
-            Some(_) => Err(Outcome::Refused),
+            Some(_) => Err(LineOutcome::Refused),
         },
-        _ => Err(Outcome::Refused),
+        _ => Err(LineOutcome::Refused),
     }
 }
 
@@ -173,21 +151,21 @@ fn begin_session<S: Shelf>(
     place: usize,
     line: &LineHead,
     body: &Body,
-) -> Outcome
+) -> LineOutcome
     requires lawful { IsLawfulLine (line_with body.now line.now) }
     requires order { AreInOrder replaying.old.sessions }
     requires up { AllAreUp replaying.old.sessions.begun.items }
     requires comes { ComesFor S.Disk.told replaying.old.sessions place false (line_with body.now line.now) }
     ensures goes { (written : Option (List ℕ)) → LineGoes S.told S.Disk.told shelf.old shelf.new replaying.old
         replaying.new written written (line_with body.now line.now) result }
-    ensures written { result ≡ Outcome.Unwritten → ⊥ }
+    ensures written { result ≡ LineOutcome.Unwritten → ⊥ }
     ensures disks_later { S.told.disk_faults shelf.old ≤ S.told.disk_faults shelf.new }
 {
     match begin(replaying.alloc, shelf, line, body) {
         Ok(session) => {
             replaying.sessions.insert(place, session);
             replaying.sessions.note_applied(line, place);
-            Outcome::Applied
+            LineOutcome::Applied
         }
         Err(outcome) => outcome,
     }
@@ -200,26 +178,26 @@ fn coarsen_at<S: Shelf>(
     place: usize,
     line: &LineHead,
     body: &Body,
-) -> Outcome
+) -> LineOutcome
     requires first { is_first (line_with body.now line.now) ≡ true }
     requires order { AreInOrder replaying.old.sessions }
     requires up { AllAreUp replaying.old.sessions.begun.items }
     requires comes { ComesFor S.Disk.told replaying.old.sessions place true (line_with body.now line.now) }
     ensures goes { (shelf : _) (written : Option (List ℕ)) → LineGoes S.told S.Disk.told shelf shelf replaying.old
         replaying.new written written (line_with body.now line.now) result }
-    ensures written { result ≡ Outcome.Unwritten → ⊥ }
+    ensures written { result ≡ LineOutcome.Unwritten → ⊥ }
 {
     // What makes a session coarse has no body.
     let _bytes = body;
     if begins_session(line) {
-        return Outcome::Refused;
+        return LineOutcome::Refused;
     }
     if replaying.sessions.begun[place].is_coarse() {
-        return Outcome::Refused;
+        return LineOutcome::Refused;
     }
     replaying.sessions.begun[place].make_coarse();
     replaying.sessions.note_applied(line, place);
-    Outcome::Applied
+    LineOutcome::Applied
 }
 
 /// Applies a line of the script to the session that it names, or begins that one. What it prints is added
@@ -230,7 +208,7 @@ pub fn apply<S: Shelf, O: Sink>(
     line: &LineHead,
     body: &Body,
     out: &mut O,
-) -> Outcome
+) -> LineOutcome
     requires lawful { IsLawfulLine (line_with body.now line.now) }
     requires room { CanHoldLine line.now body.now }
     requires order { AreInOrder replaying.old.sessions }
@@ -239,14 +217,14 @@ pub fn apply<S: Shelf, O: Sink>(
         (O.written out.new) (line_with body.now line.now) result }
     ensures disks_later { S.told.disk_faults shelf.old ≤ S.told.disk_faults shelf.new }
     ensures later { O.faults out.old ≤ O.faults out.new }
-    ensures cause { result ≡ Outcome.Unwritten → Rose (O.faults out.old) (O.faults out.new) }
+    ensures cause { result ≡ LineOutcome.Unwritten → Rose (O.faults out.old) (O.faults out.new) }
 {
     let number = match session_of(line) {
-        None => return Outcome::Applied,
+        None => return LineOutcome::Applied,
         Some(number) => number,
     };
     if !replaying.sessions.is_in_turn(line) {
-        return Outcome::Refused;
+        return LineOutcome::Refused;
     }
     let place = replaying.sessions.place_of(number);
     if !replaying.sessions.is_at(place, number) {
@@ -260,12 +238,12 @@ pub fn apply<S: Shelf, O: Sink>(
     let outcome = outcome_of(session.id(), &stop);
     match replaying.output.print_all(replaying.events.as_slice(), out) {
         Ok(()) => {}
-        Err(_) => return Outcome::Unwritten,
+        Err(_) => return LineOutcome::Unwritten,
     }
     match outcome {
-        Outcome::Applied => {
+        LineOutcome::Applied => {
             replaying.sessions.note_applied(line, place);
-            Outcome::Applied
+            LineOutcome::Applied
         }
         outcome => outcome,
     }

@@ -10,14 +10,7 @@ ghost use Rattle.script_replay.specs.Lending.{IsOutAt, ReadAt, RisesAt, AreOnShe
 ghost use Rattle.script_replay.specs.Failing.{IsNotGiven};
 
 use disk_model::{Disk, DiskName, Role, Shelf, ShelfFault};
-
-/// The three disks of a session, off the shelf.
-#[derive(Drop)]
-pub struct TakenDisks<D> {
-    pub low: D,
-    pub high: D,
-    pub recv: D,
-}
+use recovery::Trio;
 
 /// Which disk could not be taken off the shelf, and why.
 #[derive(Clone, Copy)]
@@ -47,7 +40,7 @@ pub fn take_disk<S: Shelf>(shelf: &mut S, session: u32, role: Role) -> Result<S:
 
 /// Takes the three disks of a session off the shelf, low's first. Where one can't be taken, those
 /// before it are put back.
-pub fn take_disks<S: Shelf>(shelf: &mut S, session: u32) -> Result<TakenDisks<S::Disk>, NotTaken>
+pub fn take_disks<S: Shelf>(shelf: &mut S, session: u32) -> Result<Trio<S::Disk>, NotTaken>
     ensures low { IfOk result (λ disks. S.told.tells
         → ReadAt (S.told.disk shelf.old) session roles.Low (S.Disk.told.reading disks.low)) }
     ensures high { IfOk result (λ disks. S.told.tells
@@ -78,7 +71,7 @@ pub fn take_disks<S: Shelf>(shelf: &mut S, session: u32) -> Result<TakenDisks<S:
         }
     };
     match take_disk(shelf, session, Role::Recv) {
-        Ok(recv) => Ok(TakenDisks { low, high, recv }),
+        Ok(recv) => Ok(Trio { low, high, recv }),
         Err(not_taken) => {
             put_disk_back(shelf, session, Role::Low, low);
             put_disk_back(shelf, session, Role::High, high);

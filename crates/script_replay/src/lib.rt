@@ -15,8 +15,8 @@ mod replaying;
 mod session;
 mod sessions;
 
-pub use disks::{NotTaken, TakenDisks, put_disk_back, put_disks_back, take_disk, take_disks};
+pub use disks::{NotTaken, put_disk_back, put_disks_back, take_disk, take_disks};
 pub use ended::Ended;
-pub use outcome::{fault_of, refusal_of};
+pub use outcome::{fault_of, refusal_of, untaken_fault};
 pub use output::Output;
 pub use replaying::replay;

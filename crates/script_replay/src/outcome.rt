@@ -1,6 +1,6 @@
 //! What becomes of a line of a script.
 
-ghost use Rattle.std.specs.Prelude.{◌≡◌, Some};
+ghost use Rattle.std.specs.Prelude.{◌≡◌, Some, None};
 ghost use Rattle.script_replay.specs.Runners.{fault_of, outcome_of, outcome_at, refusal_of, IsLineFault, StopsByLine};
 
 use crate::disks::NotTaken;
@@ -11,7 +11,7 @@ use two_worlds::Stop;
 
 /// What became of a line. What it prints is with the output.
 #[derive(Clone, Copy)]
-pub enum Outcome {
+pub enum LineOutcome {
     Applied,
     Refused,
     /// It stops the script with this fault.
@@ -46,50 +46,61 @@ pub fn fault_of(session: u32, role: Role, why: &Why) -> Fault
     }
 }
 
-pub fn outcome_at(session: u32, role: Role, why: &Option<Why>) -> Outcome
+pub fn outcome_at(session: u32, role: Role, why: &Option<Why>) -> LineOutcome
     ensures line { StopsByLine result }
     ensures is { result ≡ outcome_at session role why.now }
 {
     match why {
-        None => Outcome::Memory,
-        Some(why) => Outcome::Stopped(fault_of(session, role, why)),
+        None => LineOutcome::Memory,
+        Some(why) => LineOutcome::Stopped(fault_of(session, role, why)),
     }
 }
 
-// What becomes of a line whose disks can't be taken off the shelf.
-pub fn untaken(session: u32, not_taken: NotTaken) -> Outcome
-    ensures line { StopsByLine result }
-    ensures memory { not_taken.fault ≡ ShelfFault.Memory → result ≡ Outcome.Memory }
-    ensures failed { not_taken.fault ≡ ShelfFault.Failed
-        → result ≡ Outcome.Stopped (Fault.Device session not_taken.role) }
+/// The fault of a disk that can't be taken off the shelf; `None` where memory was wanting.
+pub fn untaken_fault(session: u32, not_taken: NotTaken) -> Option<Fault>
+    ensures memory { not_taken.fault ≡ ShelfFault.Memory → result ≡ None }
+    ensures failed { not_taken.fault ≡ ShelfFault.Failed → result ≡ Some (Fault.Device session not_taken.role) }
 {
     match not_taken.fault {
-        ShelfFault::Memory => Outcome::Memory,
-        ShelfFault::Failed => Outcome::Stopped(Fault::Device {
+        ShelfFault::Memory => None,
+        ShelfFault::Failed => Some(Fault::Device {
             session,
             role: not_taken.role,
         }),
     }
 }
 
+// What becomes of a line whose disks can't be taken off the shelf.
+pub fn untaken(session: u32, not_taken: NotTaken) -> LineOutcome
+    ensures line { StopsByLine result }
+    ensures memory { not_taken.fault ≡ ShelfFault.Memory → result ≡ LineOutcome.Memory }
+    ensures failed { not_taken.fault ≡ ShelfFault.Failed
+        → result ≡ LineOutcome.Stopped (Fault.Device session not_taken.role) }
+{
+    match untaken_fault(session, not_taken) {
+        None => LineOutcome::Memory,
+        Some(fault) => LineOutcome::Stopped(fault),
+    }
+}
+
 /// What becomes of a line, by why it stops the session with this number, if it does.
-pub fn outcome_of(id: u32, stop: &Option<Stop>) -> Outcome
+pub fn outcome_of(id: u32, stop: &Option<Stop>) -> LineOutcome
     ensures line { StopsByLine result }
     ensures is { result ≡ outcome_of id stop.now }
 {
     match stop {
-        None => Outcome::Applied,
-        Some(Stop::Line) => Outcome::Refused,
-        Some(Stop::Device { role, .. }) => Outcome::Stopped(Fault::Device {
+        None => LineOutcome::Applied,
+        Some(Stop::Line) => LineOutcome::Refused,
+        Some(Stop::Device { role, .. }) => LineOutcome::Stopped(Fault::Device {
             session: id,
             role: *role,
         }),
-        Some(Stop::Full { end, length, size }) => Outcome::Stopped(Fault::Full {
+        Some(Stop::Full { end, length, size }) => LineOutcome::Stopped(Fault::Full {
             session: id,
             end: *end,
             length: *length,
             size: *size,
         }),
-        Some(Stop::Disk { role, why }) => Outcome::Stopped(refusal_of(id, *role, why)),
+        Some(Stop::Disk { role, why }) => LineOutcome::Stopped(refusal_of(id, *role, why)),
     }
 }

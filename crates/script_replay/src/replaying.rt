@@ -5,10 +5,11 @@ ghost use Rattle.std.specs.Io.KnownBytes.{Appends};
 ghost use Rattle.disk_model.specs.declared.name.Role.{Role as DiskRole};
 ghost use Rattle.pump_frame.specs.Counts.{Rose};
 ghost use Rattle.pump_link.specs.Causes.{HasCause, AppendsPrefix};
-ghost use Rattle.script_reader.specs.Sessions.{Sessions as Script, no_sessions, AllEnd};
+ghost use Rattle.script_reader.specs.Sessions.{Sessions as Script, AllEnd};
 ghost use Rattle.script_reader.specs.declared.event.Event.{Event as Printed};
 ghost use Rattle.script_reader.specs.Transcript.{text, fault_line};
 ghost use Rattle.two_worlds.specs.Printing.{lines_in};
+ghost use Rattle.script_replay.specs.Applied.{IsBeforeLines};
 ghost use Rattle.script_replay.specs.Sessions.{id_of, HasFailed, found_at, Rise, AreInOrder, AllStandFor};
 ghost use Rattle.script_replay.specs.Outputs.{held_of};
 ghost use Rattle.script_replay.specs.Ends.{EndsReplay};
@@ -22,7 +23,7 @@ ghost use Rattle.script_replay.specs.Runners.{Closes, EndsAs, IsDeviceFaultOf, D
 use crate::applying::{Replaying, apply};
 use crate::disks::put_disks_back;
 use crate::ended::Ended;
-use crate::outcome::Outcome;
+use crate::outcome::LineOutcome;
 use crate::output::Output;
 use crate::session::Session;
 use crate::sessions::Sessions;
@@ -92,10 +93,7 @@ fn run<S: Shelf, I: Source, O: Sink>(
     script: &mut I,
     out: &mut O,
 ) -> Ended
-    requires none { replaying.old.sessions.begun.items ≡ [] }
-    requires stands { AllStandFor S.Disk.told replaying.old.sessions no_sessions }
-    requires order { AreInOrder replaying.old.sessions }
-    requires unheld { held_of replaying.old.output ≡ [] }
+    requires { IsBeforeLines S.Disk.told replaying.old }
     ensures ends { S.told.tells → S.Disk.told.tells
         → EndsAs (lent S.Disk.told (S.told.disk shelf.old) (S.told.disk shelf.new) replaying.new.sessions.begun.items)
         (I.left script.old) (I.left script.new) (O.written out.old) (O.written out.new) (I.faults script.old)
@@ -124,11 +122,11 @@ fn run<S: Shelf, I: Source, O: Sink>(
         }
         match lines.next_head(script, &mut body) {
             LinedHead::Line(line) => match apply(replaying, shelf, &line, &body, out) {
-                Outcome::Applied => {}
-                Outcome::Refused => return refuse(lines.number(), &mut replaying.output, out),
-                Outcome::Stopped(fault) => return stop(fault, &mut replaying.output, out),
-                Outcome::Memory => return Ended::Memory,
-                Outcome::Unwritten => return Ended::Write,
+                LineOutcome::Applied => {}
+                LineOutcome::Refused => return refuse(lines.number(), &mut replaying.output, out),
+                LineOutcome::Stopped(fault) => return stop(fault, &mut replaying.output, out),
+                LineOutcome::Memory => return Ended::Memory,
+                LineOutcome::Unwritten => return Ended::Write,
             },
             LinedHead::Bad => return refuse(lines.number(), &mut replaying.output, out),
             LinedHead::Failed => return stop(Fault::Read, &mut replaying.output, out),

@@ -49,7 +49,8 @@ lost_line session count (Some name) =
     line_with_end (codes "dropped" ∷ decimal session ∷ decimal count ∷ codes "lost" ∷ name ∷ [])
 
 -- a collector was opened: what fits messages is opened as what the counted ones of them make
-pub record Opens {I D : Type 0} (mi : Placing I) (md : Meaning D) (inbox : I) (c : Collector I D) : Type 0 where
+pub record CollectorOpens {I D : Type 0} (mi : Placing I) (md : Meaning D) (inbox : I) (c : Collector I D)
+    : Type 0 where
   pub ready : IsCollecting mi md c
   pub here : mi.tells → md.tells → (messages : List (List ℕ)) → (on : OpensOn mi inbox messages)
       → HasTaken mi md c (take (taken_count c) messages) × (on.fits.count ≤ taken_count c) × (c.lost ≡ None)
@@ -98,7 +99,7 @@ module _ {I D L X : Type 0} (t : LinkTells L) (mi : Placing I) (md : Meaning D) 
       ((fault : CollectFault) × (end ≡ end_of_opening fault) × IsWhyClosed mi md inbox back fault
       × (mi.shown back ≡ mi.shown inbox)
       × Grows ports now_ports [] × (mid ≡ written))
-      ⊎ ((old new : Collector I D) × Opens mi md inbox old × (back ≡ new.gatherer.inbox)
+      ⊎ ((old new : Collector I D) × CollectorOpens mi md inbox old × (back ≡ new.gatherer.inbox)
       × CollectsOver row old new end mid mid_faults)
 
   -- the row has too small messages, the folder was not given, or it was and was taken back

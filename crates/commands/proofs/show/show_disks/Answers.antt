@@ -6,7 +6,7 @@ use Rattle.commands.proofs.Formatted.{if_err, rises_so}
 use Rattle.script_replay.proofs.Shelving.{rose_more}
 use Rattle.commands.proofs.Failing.{came_back, untaken_names}
 use Rattle.commands.proofs.Shown.{if_ok, alike, shown_so, shown_same, stops_so, rose_at, not_failed}
-use Rattle.script_replay.specs.declared.disks.TakenDisks.{TakenDisks}
+use Rattle.recovery.specs.declared.trio.Trio.{Trio}
 use Rattle.commands.proofs.show.show_disks.Goals as goal
 
 pub returns-in-Ok-survey_disks-clause-shown : goal.returns-in-Ok-survey_disks-clause-shown
@@ -51,7 +51,7 @@ returns-in-Err-survey_disks-clause-device g c = λ role is.
     let n = c.in-Err-survey_disks.refused in
     let b = c.put_disks_back-in-Err-survey_disks in
     let failed : c.end_at-end.result ≡ ends.Failed role = cc in
-    let now : TakenDisks g.row.S-Disk.Denot = record { low = n.low; high = n.high; recv = n.recv } in
+    let now : Trio g.row.S-Disk.Denot = record { low = n.low; high = n.high; recv = n.recv } in
     let rose = rose_at g.S.Disk.Disk.told c.in-Ok.disks n s.low_back s.high_back s.recv_back role (sym c.end_at-end.ensures ∙ failed) in (
       rose_more (g.S.Shelf.told.disk_faults c.args.shelf.now) (g.S.Shelf.told.disk_faults c.take_disks.new.shelf) (g.S.Shelf.told.disk_faults b.new.shelf) c.take_disks.ensures.later
           (rises_so g.S.Disk.Disk.told (g.S.Shelf.told.disk c.take_disks.new.shelf) c.args.row.now.id c.in-Ok.disks now _ _ t.low_out t.high_out t.recv_out b.ensures.low_rises b.ensures.high_rises b.ensures.recv_rises role rose),

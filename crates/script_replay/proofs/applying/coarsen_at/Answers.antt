@@ -3,7 +3,7 @@ use Rattle.std.proofs.lemmas.Option.{same_Some}
 use Rattle.script_reader.specs.Heads.{line_with}
 use Rattle.script_replay.specs.Outputs.{held_of}
 use Rattle.script_replay.specs.Sessions.{is_coarse}
-use Rattle.script_replay.specs.declared.outcome.Outcome.TheVariants.{Applied}
+use Rattle.script_replay.specs.declared.outcome.LineOutcome.TheVariants.{Applied}
 use Rattle.script_replay.proofs.Coarse.{coarse_line}
 use Rattle.script_replay.proofs.Fresh.{put_fresh}
 use Rattle.script_replay.proofs.Given.{refused_goes}

@@ -7,6 +7,7 @@ use Rattle.command_ends.proofs.CommandEnds.{session_status}
 use Rattle.command_ends.specs.declared.command_end.CommandEnd.{CommandEnd}
 use Rattle.command_ends.specs.declared.command_end.CommandEnd.TheVariants as ends
 use Rattle.disk_model.specs.declared.name.Role.{Role}
+use Rattle.dispatch.specs.Batch.{HasBatchCause}
 use Rattle.dispatch.specs.Racing.{EndsRace}
 use Rattle.dispatch.proofs.Asked.{is_not}
 use Rattle.script_reader.specs.declared.fault.Fault.TheVariants as faults
@@ -33,7 +34,7 @@ Cause Wants Disk Read Write (suc (suc (suc (suc (suc (suc zero)))))) = Unit
 Cause Wants Disk Read Write (suc (suc (suc (suc (suc (suc (suc zero))))))) = Disk
 Cause Wants Disk Read Write (suc (suc (suc (suc (suc (suc (suc (suc n)))))))) = Unit
 
-causes : (Wants Disk Read Write : Type 0) (status number : ℕ) → status ≡ number → Cause Wants Disk Read Write number → Causes Wants Disk Read Write status
+pub causes : (Wants Disk Read Write : Type 0) (status number : ℕ) → status ≡ number → Cause Wants Disk Read Write number → Causes Wants Disk Read Write status
 causes Wants Disk Read Write status number is cause = record {
   memory = λ e. subst (λ n. Cause Wants Disk Read Write n) (sym is ∙ e) cause;
   words = λ e. subst (λ n. Cause Wants Disk Read Write n) (sym is ∙ e) cause;
@@ -41,6 +42,10 @@ causes Wants Disk Read Write status number is cause = record {
   write = λ e. subst (λ n. Cause Wants Disk Read Write n) (sym is ∙ e) cause;
   disk = λ e. subst (λ n. Cause Wants Disk Read Write n) (sym is ∙ e) cause;
 }
+
+-- .. as `batch` says it
+pub batch_cause : (Wants Disk Read Write : Type 0) (status : ℕ) → Causes Wants Disk Read Write status → HasBatchCause Wants Read Disk status
+batch_cause Wants Disk Read Write status c = record { memory = c.memory; words = c.words; read = c.read; disk = c.disk }
 
 -- ---- of a command over the disks of a session ----
 

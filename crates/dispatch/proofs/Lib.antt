@@ -2,7 +2,9 @@ pub mod Appended
 pub mod Asked
 pub mod Caused
 pub mod LiveEnded
+pub mod LiveUnmoved
 pub mod Raced
 pub mod Received
 pub mod Sent
 pub mod Served
+pub mod Unmoved

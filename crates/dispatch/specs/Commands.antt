@@ -1,37 +1,9 @@
--- Which commands `batch` runs and which `live` does.
-use Rattle.std.specs.Prelude.{◌≡◌, ◌⊎◌, ℕ, Bool, true, false, List, [], ◌∷◌, codes}
+-- Which commands `batch` runs and which `live` does, and what each of these uses.
+use Rattle.std.specs.Prelude.{◌≡◌, ℕ, Bool, true, false, List}
 use Rattle.command_line.specs.Commands.{AreWordsOf}
 use Rattle.command_line.specs.declared.command.Command.{Command}
-use Rattle.command_line.specs.declared.command.Command.TheVariants.{Race, Serve, Receive, Send, Append, Wrap, Messages}
-use Rattle.command_line.specs.declared.command.Command.TheVariants.{Status, DropFiles, CollectFiles}
-
--- the words of the command "replay"
-abbrev pub IsReplay : List (List ℕ) → Type 0
-IsReplay words = words ≡ codes "replay" ∷ []
-
--- .. "audit" and "compare"
-abbrev pub IsAudit : List (List ℕ) → Type 0
-IsAudit words = words ≡ codes "audit" ∷ []
-
-abbrev pub IsCompare : List (List ℕ) → Type 0
-IsCompare words = words ≡ codes "compare" ∷ []
-
--- .. "chain"
-abbrev pub IsChain : List (List ℕ) → Type 0
-IsChain words = words ≡ codes "chain" ∷ []
-
--- the words are those of a command that reads the script
-abbrev pub ReadsScript : List (List ℕ) → Type 0
-ReadsScript words = IsReplay words ⊎ (IsChain words ⊎ (IsAudit words ⊎ IsCompare words))
-
--- .. of the command that reads a file in its place
-abbrev pub IsWrap : List (List ℕ) → Type 0
-IsWrap words = (table : List ℕ) × (session : ℕ) × AreWordsOf words (Wrap table session)
-
--- .. of a command that reads the files of a session's disks beside a relay
-abbrev pub IsBeside : List (List ℕ) → Type 0
-IsBeside words = ((table : List ℕ) × (session : ℕ) × (from : ℕ) × AreWordsOf words (Messages table session from))
-    ⊎ ((table : List ℕ) × (session : ℕ) × AreWordsOf words (Status table session))
+use Rattle.command_line.specs.declared.command.Command.TheVariants.{Replay, Race, Serve, Receive, Send, Append, Wrap}
+use Rattle.command_line.specs.declared.command.Command.TheVariants.{Audit, Compare, Chain, DropFiles, CollectFiles}
 
 -- a command with threads or over a socket is for `live`
 abbrev pub is_live : Command → Bool
@@ -53,42 +25,61 @@ is_batch (DropFiles table session looks folder) = false
 is_batch (CollectFiles table session looks folder) = false
 is_batch _ = true
 
--- the words are no command that `batch` runs
+-- the words are no command of which this holds
+abbrev pub IsNoneThat : (Command → Bool) → List (List ℕ) → Type 0
+IsNoneThat holds words = (c : Command) → holds c ≡ true → AreWordsOf words c → ⊥
+
+-- .. none that `batch` runs
 abbrev pub IsNoCommand : List (List ℕ) → Type 0
-IsNoCommand words = (c : Command) → is_batch c ≡ true → AreWordsOf words c → ⊥
+IsNoCommand words = IsNoneThat is_batch words
 
 -- .. that `live` runs
 abbrev pub IsNoLiveCommand : List (List ℕ) → Type 0
-IsNoLiveCommand words = (c : Command) → is_live c ≡ true → AreWordsOf words c → ⊥
+IsNoLiveCommand words = IsNoneThat is_live words
 
--- the words are those of a command over a link or doors
-abbrev pub IsServe : List (List ℕ) → Type 0
-IsServe words = (table : List ℕ) × (session : ℕ) × (looks : ℕ) × AreWordsOf words (Serve table session looks)
+-- ---- what a command uses ----
 
-abbrev pub IsReceive : List (List ℕ) → Type 0
-IsReceive words = (table : List ℕ) × (session : ℕ) × (looks : ℕ) × AreWordsOf words (Receive table session looks)
+-- of those of `batch` these read the script; a file that is sent is read in its place
+abbrev pub reads_script : Command → Bool
+reads_script Replay = true
+reads_script Chain = true
+reads_script Audit = true
+reads_script Compare = true
+reads_script (Wrap table session) = true
+reads_script _ = false
 
-abbrev pub IsSend : List (List ℕ) → Type 0
-IsSend words = (table : List ℕ) × (session : ℕ) × (looks : ℕ) × AreWordsOf words (Send table session looks)
+-- of those of `live` these do
+abbrev pub sends_script : Command → Bool
+sends_script (Send table session looks) = true
+sends_script (Append table session looks) = true
+sends_script _ = false
 
-abbrev pub IsAppend : List (List ℕ) → Type 0
-IsAppend words = (table : List ℕ) × (session : ℕ) × (looks : ℕ) × AreWordsOf words (Append table session looks)
+-- .. and these are for a session of a table
+abbrev pub is_over_table : Command → Bool
+is_over_table (Serve table session looks) = true
+is_over_table (Receive table session looks) = true
+is_over_table (Send table session looks) = true
+is_over_table (Append table session looks) = true
+is_over_table _ = false
 
--- .. of a sender of the script
-abbrev pub IsSender : List (List ℕ) → Type 0
-IsSender words = IsSend words ⊎ IsAppend words
+-- .. at the ports of the low side, and of the high side
+abbrev pub is_at_low : Command → Bool
+is_at_low (Serve table session looks) = true
+is_at_low (Send table session looks) = true
+is_at_low (Append table session looks) = true
+is_at_low _ = false
 
-abbrev pub IsOverTable : List (List ℕ) → Type 0
-IsOverTable words = IsServe words ⊎ (IsReceive words ⊎ IsSender words)
+abbrev pub is_at_high : Command → Bool
+is_at_high (Serve table session looks) = true
+is_at_high (Receive table session looks) = true
+is_at_high _ = false
 
--- .. of one at the ports of the low side, and of the high side
-abbrev pub IsAtLow : List (List ℕ) → Type 0
-IsAtLow words = IsServe words ⊎ IsSender words
+-- .. and these read the low clock, and the keys with the high clock
+abbrev pub is_timed : Command → Bool
+is_timed (Race seed count times) = true
+is_timed (Serve table session looks) = true
+is_timed _ = false
 
-abbrev pub IsAtHigh : List (List ℕ) → Type 0
-IsAtHigh words = IsServe words ⊎ IsReceive words
-
--- .. of one that reads the low clock
-abbrev pub IsTimed : List (List ℕ) → Type 0
-IsTimed words = IsServe words ⊎ ((seed : ℕ) × (count : ℕ) × (times : List ℕ)
-    × AreWordsOf words (Race seed count (record { items = times })))
+abbrev pub reads_keys : Command → Bool
+reads_keys (Serve table session looks) = true
+reads_keys _ = false

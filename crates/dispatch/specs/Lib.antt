@@ -1,6 +1,8 @@
 pub mod Appendings
+pub mod Batch
 pub mod Chains
 pub mod Commands
+pub mod Live
 pub mod Racing
 pub mod Receptions
 pub mod Sendings

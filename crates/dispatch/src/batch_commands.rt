@@ -1,32 +1,15 @@
 //! The commands that run to their end over a shelf, a script and the output alone.
 
-ghost use Rattle.std.specs.Prelude.{◌≡◌, ℕ, ◌≤◌, ◌⊎◌, true, List, [], map, string_bytes, IfSome};
+ghost use Rattle.std.specs.Prelude.{◌≡◌, ◌≤◌, ◌⊎◌, true, map, string_bytes};
 ghost use Rattle.command_line.specs.Commands.{AreWordsOf};
 ghost use Rattle.command_line.specs.declared.command.Command.{Command as Asked};
-ghost use Rattle.command_line.specs.declared.command.Command.TheVariants as commands;
-ghost use Rattle.std.specs.Io.KnownBytes.{Appends};
 ghost use Rattle.pump_frame.specs.Counts.{Rose};
-ghost use Rattle.script_replay.specs.Ends.{EndsReplay};
-ghost use Rattle.script_replay.specs.Failing.{FailsAt};
-ghost use Rattle.script_replay.specs.Replays.{IsFailed, Wrote};
-ghost use Rattle.script_replay.specs.Shelves.{AllAreBack, shelved};
-ghost use Rattle.script_replay.specs.Told.{TellsFault};
-ghost use Rattle.command_ends.specs.CommandEnds.{EndsWithStatus, RefusesWords};
-ghost use Rattle.dispatch.specs.Commands.{is_batch, IsNoCommand, IsReplay, IsChain, IsWrap, IsAudit, IsBeside};
-ghost use Rattle.dispatch.specs.Commands.{IsCompare, ReadsScript};
-ghost use Rattle.commands.specs.Auditing.{EndsAudit, EndsComparison};
+ghost use Rattle.script_replay.specs.Shelves.{AllAreBack};
+ghost use Rattle.command_ends.specs.CommandEnds.{RefusesWords};
 ghost use Rattle.exercises.specs.Exercises.{EndsExercise};
-ghost use Rattle.commands.specs.Formatting.{Formats};
-ghost use Rattle.commands.specs.LentDisks.{RecvFailsAt};
-ghost use Rattle.commands.specs.Messages.{PrintsMessages};
-ghost use Rattle.commands.specs.Migrating.{Migrates};
-ghost use Rattle.commands.specs.ReadDisks.{disk_file};
-ghost use Rattle.commands.specs.Showing.{Shows};
-ghost use Rattle.commands.specs.Telling.{TellsStatus};
-ghost use Rattle.commands.specs.Unwrapping.{EndsUnwrap};
-ghost use Rattle.commands.specs.Wrapping.{WrapsAll};
-ghost use Rattle.disk_model.specs.declared.name.Role.TheVariants.{Recv};
-ghost use Rattle.dispatch.specs.Chains.{EndsChainWith};
+ghost use Rattle.dispatch.specs.Batch.{BatchCause, BatchEnds};
+ghost use Rattle.dispatch.specs.Commands.{is_batch, IsNoCommand, IsNoneThat, reads_script};
+ghost use Rattle.dispatch.specs.Servings.{source};
 
 use chain_replay::replay_chain;
 use command_ends::refuse_words;
@@ -85,11 +68,12 @@ fn run_exercise<O: Sink>(alloc: Global, seed: u32, count: u32, out: &mut O) -> u
 /// - 16: two records differ, which is what the output says.
 ///
 /// Of a replay's 0, 5, 7, 8 and 10 it is the one whose cause is the first in the script, where it is none
-/// of the others. The disks that a command takes off the shelf are back on it at the return. Where the
-/// shelf and its disks tell what they hold, the clauses say what the script printed (`Replayed`,
+/// of the others. The disks that a command takes off the shelf are back on it at the return. `BatchCause`
+/// says of each command what its status tells of memory, reads and disks. Where the shelf and its disks
+/// tell what they hold, `BatchEnds` says how each ends. Of a replay that is what the script printed (`Replayed`,
 /// `KeepLaws`) and what is read of the disks then (`Shelved`): those of each session stand for the world
 /// that it came to, and outlive this call with every message whose acknowledgement was printed, at each
-/// status but 1, at which a replay writes nothing (`EndedWith`). They say too what a format leaves
+/// status but 1, at which a replay writes nothing (`EndedWith`). It says too what a format leaves
 /// (`Formats`), what is shown (`Shows`), what a move leaves (`Migrates`), which messages are printed
 /// (`PrintsMessages`), which state is told (`TellsStatus`), and what an exercise writes (`EndsExercise`).
 /// `docs/formats.md` has the script, the table, the transcript, the disks and the last line at the statuses
@@ -106,96 +90,20 @@ pub fn batch<S: Shelf, I: Source, O: Sink>(
         × (shelf.new ≡ shelf.old) }
     ensures words { IsNoCommand (map string_bytes words.now.items)
         → RefusesWords (O.written out.old) (O.written out.new) result }
-    ensures known { (c : Asked) → is_batch c ≡ true → AreWordsOf (map string_bytes words.now.items) c
-        → (result ≡ 2 → ⊥) }
     // Only a replay, of one pump's script or of two, the commands over records and the sending of a
     // file read the script.
-    ensures unasked { (ReadsScript (map string_bytes words.now.items) → ⊥) → (IsWrap (map string_bytes words.now.items)
-        → ⊥) → script.new ≡ script.old }
+    ensures unasked { IsNoneThat reads_script (map string_bytes words.now.items) → script.new ≡ script.old }
     // Whatever the status is, every disk is back on the shelf.
     ensures back { S.told.tells → AllAreBack (S.told.disk shelf.old) (S.told.disk shelf.new) }
-    // A disk fails only where the shelf's count rose, or where a line of the script tells so of a
-    // low side alone, whatever the shelf tells.
-    ensures device { (IsBeside (map string_bytes words.now.items) → ⊥) → result ≡ 7
-        → Rose (S.told.disk_faults shelf.old) (S.told.disk_faults shelf.new)
-        ⊎ (TellsFault (I.left script.old) (I.left script.new)
-        × (S.told.tells → S.Disk.told.tells → Wrote (I.left script.old) (O.written out.old) (O.written out.new)
-        (IsFailed (shelved (S.told.disk shelf.old) (S.told.disk shelf.new)) (I.left script.new)))) }
-    ensures disk { (IsReplay (map string_bytes words.now.items) → ⊥) → (IsBeside (map string_bytes words.now.items) → ⊥)
-        → result ≡ 7 → Rose (S.told.disk_faults shelf.old) (S.told.disk_faults shelf.new) }
-    // The commands beside a relay take no disk off the shelf. That a file of a disk is not read is
-    // a failed read to them.
-    ensures beside { IsBeside (map string_bytes words.now.items) → (S.told.disk shelf.new ≡ S.told.disk shelf.old)
-        × (result ≡ 7 → Rose (S.told.faults shelf.old) (S.told.faults shelf.new)) }
-    // A read fails, and a write, only where the source's, the shelf's or the sink's count rose.
-    ensures file { (ReadsScript (map string_bytes words.now.items) → ⊥) → (IsWrap (map string_bytes words.now.items)
-        → ⊥) → result ≡ 3 → Rose (S.told.faults shelf.old) (S.told.faults shelf.new) }
-    ensures read { ReadsScript (map string_bytes words.now.items) → result ≡ 3
-        → Rose (I.faults script.old) (I.faults script.new) }
-    ensures either { IsWrap (map string_bytes words.now.items) → result ≡ 3
-        → Rose (S.told.faults shelf.old) (S.told.faults shelf.new) ⊎ Rose (I.faults script.old) (I.faults script.new) }
+    // What the status tells of memory, words, reads and disks; and a write fails only where the sink's count rose.
+    ensures cause { (c : Asked) → is_batch c ≡ true → AreWordsOf (map string_bytes words.now.items) c
+        → BatchCause S.told S.Disk.told shelf.old shelf.new (source I.left I.faults script.old script.new)
+        (O.written out.old) (O.written out.new) result c }
     ensures unwritten { result ≡ 4 → Rose (O.faults out.old) (O.faults out.new) }
-    // A command that reads the script has written nothing where memory was wanting; of how a replay
-    // ends with another status see `EndsReplay`.
-    ensures memory { ReadsScript (map string_bytes words.now.items) → result ≡ 1
-        → Appends (O.written out.old) (O.written out.new) [] }
-    ensures replay { IsReplay (map string_bytes words.now.items) → S.told.tells → S.Disk.told.tells
-        → EndsReplay result (S.told.disk shelf.old) (S.told.disk shelf.new) (FailsAt S.told S.Disk.told shelf.old
-        shelf.new)
-        (I.left script.old) (I.left script.new) (O.written out.old) (O.written out.new) (I.faults script.old)
-        (I.faults script.new) }
-    ensures chain { IsChain (map string_bytes words.now.items) → S.told.tells → S.Disk.told.tells
-        → EndsChainWith result (S.told.disk shelf.old) (S.told.disk shelf.new) (FailsAt S.told S.Disk.told shelf.old
-        shelf.new)
-        (I.left script.old) (I.left script.new) (O.written out.old) (O.written out.new) (I.faults script.old)
-        (I.faults script.new) }
-    // How formatting, showing, moving, sending and writing a file, printing messages, telling a
-    // state and an exercise end.
-    ensures format { (table : List ℕ) (session : ℕ)
-        → AreWordsOf (map string_bytes words.now.items) (commands.Format table session) → S.told.tells
-        → S.Disk.told.tells
-        → EndsWithStatus (Formats (S.told.file shelf.old table) (S.told.disk shelf.old) (S.told.disk shelf.new)
-        (FailsAt S.told S.Disk.told shelf.old shelf.new) session) (O.written out.old) (O.written out.new) result }
-    ensures show { (table : List ℕ) (session : ℕ)
-        → AreWordsOf (map string_bytes words.now.items) (commands.Show table session) → S.told.tells → S.Disk.told.tells
-        → EndsWithStatus (Shows (S.told.file shelf.old table) (S.told.disk shelf.old) (S.told.disk shelf.new)
-        (FailsAt S.told S.Disk.told shelf.old shelf.new) session) (O.written out.old) (O.written out.new) result }
-    ensures migrate { (table : List ℕ) (session : ℕ) (new_table : List ℕ) (new_session : ℕ)
-        → AreWordsOf (map string_bytes words.now.items) (commands.Migrate table session new_table new_session)
-        → S.told.tells → S.Disk.told.tells
-        → EndsWithStatus (Migrates (S.told.file shelf.old table) (S.told.file shelf.old new_table)
-        (S.told.disk shelf.old) (S.told.disk shelf.new)
-        (FailsAt S.told S.Disk.told shelf.old shelf.new) session new_session) (O.written out.old) (O.written out.new)
-        result }
-    ensures wrap { (table : List ℕ) (session : ℕ)
-        → AreWordsOf (map string_bytes words.now.items) (commands.Wrap table session) → S.told.tells → S.Disk.told.tells
-        → EndsWithStatus (WrapsAll (S.told.faults shelf.old) (S.told.faults shelf.new) (S.told.file shelf.old table)
-        (S.told.disk shelf.old) (S.told.disk shelf.new) (FailsAt S.told S.Disk.told shelf.old shelf.new) session
-        (I.left script.old) (I.left script.new)) (O.written out.old) (O.written out.new) result }
-    ensures unwrap { (table : List ℕ) (session : ℕ)
-        → AreWordsOf (map string_bytes words.now.items) (commands.Unwrap table session) → S.told.tells
-        → S.Disk.told.tells
-        → EndsUnwrap (S.told.file shelf.old table) (S.told.disk shelf.old) (S.told.disk shelf.new)
-        (RecvFailsAt S.told S.Disk.told shelf.old shelf.new) session (O.written out.old) (O.written out.new) result }
-    ensures messages { (table : List ℕ) (session : ℕ) (from : ℕ)
-        → AreWordsOf (map string_bytes words.now.items) (commands.Messages table session from) → S.told.tells
-        → EndsWithStatus (PrintsMessages (S.told.file shelf.old table) (disk_file (S.told.file shelf.old) session Recv)
-        session from) (O.written out.old) (O.written out.new) result }
-    ensures tells { (table : List ℕ) (session : ℕ)
-        → AreWordsOf (map string_bytes words.now.items) (commands.Status table session) → S.told.tells
-        → EndsWithStatus (TellsStatus (S.told.file shelf.old table) (disk_file (S.told.file shelf.old) session)
-        (Rose (S.told.faults shelf.old) (S.told.faults shelf.new)) session) (O.written out.old) (O.written out.new)
-        result }
-    ensures exercise { (seed : ℕ) (count : ℕ)
-        → AreWordsOf (map string_bytes words.now.items) (commands.Exercise seed count)
-        → (shelf.new ≡ shelf.old) × EndsExercise seed count (O.written out.old) (O.written out.new) result }
-    // What is said of a record, and of two.
-    ensures audit { IsAudit (map string_bytes words.now.items) → (shelf.new ≡ shelf.old)
-        × IfSome (I.left script.old) (λ bytes. EndsAudit bytes (Rose (I.faults script.old) (I.faults script.new))
-        (O.written out.old) (O.written out.new) result) }
-    ensures compare { IsCompare (map string_bytes words.now.items) → (shelf.new ≡ shelf.old)
-        × IfSome (I.left script.old) (λ bytes. EndsComparison bytes (Rose (I.faults script.old) (I.faults script.new))
-        (O.written out.old) (O.written out.new) result) }
+    // How each command ends.
+    ensures ends { (c : Asked) → is_batch c ≡ true → AreWordsOf (map string_bytes words.now.items) c
+        → BatchEnds S.told S.Disk.told shelf.old shelf.new (source I.left I.faults script.old script.new)
+        (O.written out.old) (O.written out.new) result c }
     ensures status { (result ≤ 8) ⊎ ((result ≡ 10) ⊎ ((13 ≤ result) × (result ≤ 16))) }
 {
     let asked = match command_of(alloc, words.as_slice()) {

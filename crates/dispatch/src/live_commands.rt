@@ -1,26 +1,20 @@
 //! The commands with threads, and those over a socket.
 
-ghost use Rattle.std.specs.Prelude.{◌≡◌, ◌⊎◌, ◌<◌, ◌≤◌, ℕ, true, List, [], length, map, string_bytes, IfSome};
+ghost use Rattle.std.specs.Prelude.{◌≡◌, ◌⊎◌, ◌<◌, ◌≤◌, true, [], length, map, string_bytes, IfSome};
 ghost use Rattle.std.specs.Io.KnownBytes.{Appends};
 ghost use Rattle.command_line.specs.Commands.{AreWordsOf};
 ghost use Rattle.command_line.specs.declared.command.Command.{Command as Asked};
-ghost use Rattle.command_line.specs.declared.command.Command.TheVariants as commands;
 ghost use Rattle.command_line.specs.TimeLists.{AreTimes};
 ghost use Rattle.pump_frame.specs.Counts.{Rose};
 ghost use Rattle.relay_side.specs.Sides.{side};
-ghost use Rattle.command_ends.specs.CommandEnds.{EndsLive, RefusesWords};
-ghost use Rattle.commands.specs.LentDisks.{RecvFailsAt};
-ghost use Rattle.script_replay.specs.Failing.{FailsAt};
+ghost use Rattle.command_ends.specs.Causes.{HasStatusCause};
+ghost use Rattle.command_ends.specs.CommandEnds.{RefusesWords};
 ghost use Rattle.script_replay.specs.Shelves.{AllAreBack};
-ghost use Rattle.peers.specs.Appending.{link_tells};
 ghost use Rattle.serving.specs.Doors.{doors, links};
-ghost use Rattle.dispatch.specs.Appendings.{AppendComes};
-ghost use Rattle.dispatch.specs.Commands.{is_live, IsNoLiveCommand, IsAtHigh, IsAtLow, IsOverTable, IsSender, IsServe};
-ghost use Rattle.dispatch.specs.Commands.{IsTimed};
+ghost use Rattle.dispatch.specs.Commands.{is_live, IsNoLiveCommand};
+ghost use Rattle.dispatch.specs.Live.{LeavesUnused, LiveEnds};
 ghost use Rattle.dispatch.specs.Racing.{IsRecordOf, EndsRace};
-ghost use Rattle.dispatch.specs.Receptions.{ReceiveComes};
-ghost use Rattle.dispatch.specs.Sendings.{SendComes};
-ghost use Rattle.dispatch.specs.Servings.{disks, file, source, ServeComes};
+ghost use Rattle.dispatch.specs.Servings.{source};
 
 use crate::append::append_session;
 use crate::receive::receive_session;
@@ -126,63 +120,29 @@ where
     // Words that are no such command.
     ensures words { IsNoLiveCommand (map string_bytes words.now.items)
         → RefusesWords (O.written out.old) (O.written out.new) result }
-    ensures known { (c : Asked) → is_live c ≡ true → AreWordsOf (map string_bytes words.now.items) c
-        → (result ≡ 2 → ⊥) }
-    // What a command does not need is untouched.
-    ensures shelf { (IsOverTable (map string_bytes words.now.items) → ⊥) → shelf.new ≡ shelf.old }
-    ensures low_ports { (IsAtLow (map string_bytes words.now.items) → ⊥) → low.new.ports ≡ low.old.ports }
-    ensures high_ports { (IsAtHigh (map string_bytes words.now.items) → ⊥) → high.new.ports ≡ high.old.ports }
-    ensures script { (IsSender (map string_bytes words.now.items) → ⊥) → script.new ≡ script.old }
-    ensures keys { (IsServe (map string_bytes words.now.items) → ⊥) → (keys.new ≡ keys.old)
-        × (high.new.clock ≡ high.old.clock) }
-    ensures clock { (IsTimed (map string_bytes words.now.items) → ⊥) → low.new.clock ≡ low.old.clock }
+    // What a command does not use is untouched.
+    ensures unused { LeavesUnused (map string_bytes words.now.items) shelf.old shelf.new low.old low.new high.old
+        high.new keys.old keys.new script.old script.new }
     // Whatever the status is, every disk is back on the shelf.
     ensures back { S.told.tells → AllAreBack (S.told.disk shelf.old) (S.told.disk shelf.new) }
-    // The statuses that come only where a count rose, or a source ended.
-    ensures memory { result ≡ 1 → Appends (O.written out.old) (O.written out.new) [] }
-    ensures read { result ≡ 3 → Rose (S.told.faults shelf.old) (S.told.faults shelf.new)
-        ⊎ (Rose (I.faults script.old) (I.faults script.new)
-        ⊎ (Rose (Q.faults keys.old) (Q.faults keys.new) ⊎ IfSome (Q.left keys.old) (λ bytes. length bytes < 32))) }
-    ensures unwritten { result ≡ 4 → Rose (O.faults out.old) (O.faults out.new) }
-    ensures device { result ≡ 7 → Rose (S.told.disk_faults shelf.old) (S.told.disk_faults shelf.new) }
-    ensures link { result ≡ 9 → Rose (P.faults low.old.ports) (P.faults low.new.ports)
-        ⊎ Rose (P.faults high.old.ports) (P.faults high.new.ports) }
+    // The statuses that come only where a count rose, or a source ended, or the words are no such command.
+    ensures cause { HasStatusCause (record {
+      memory = Appends (O.written out.old) (O.written out.new) [];
+      read = Rose (S.told.faults shelf.old) (S.told.faults shelf.new)
+          ⊎ (Rose (I.faults script.old) (I.faults script.new)
+          ⊎ (Rose (Q.faults keys.old) (Q.faults keys.new) ⊎ IfSome (Q.left keys.old) (λ bytes. length bytes < 32)));
+      unwritten = Rose (O.faults out.old) (O.faults out.new);
+      device = λ role. Rose (S.told.disk_faults shelf.old) (S.told.disk_faults shelf.new);
+      link = Rose (P.faults low.old.ports) (P.faults low.new.ports)
+          ⊎ Rose (P.faults high.old.ports) (P.faults high.new.ports);
+    }) (IsNoLiveCommand (map string_bytes words.now.items)) result }
     // How each command ends.
-    ensures race { (seed : ℕ) (count : ℕ) (times : List ℕ)
-        → AreWordsOf (map string_bytes words.now.items) (commands.Race seed count (record { items = times }))
-        → EndsRace (IsRecordOf seed count times (K.reads low.old.clock) (K.reads low.new.clock)) (O.written out.old)
-        (O.written out.new) result }
-    ensures serve { (table : List ℕ) (session rounds : ℕ)
-        → AreWordsOf (map string_bytes words.now.items) (commands.Serve table session rounds)
-        → EndsLive (ServeComes (doors P.Door.port P.Door.did P.Door.gives (links P.Link.gives P.Link.sent
-        P.Link.faults)) rounds
+    ensures ends { (c : Asked) → is_live c ≡ true → AreWordsOf (map string_bytes words.now.items) c
+        → LiveEnds (doors P.Door.port P.Door.did P.Door.gives (links P.Link.gives P.Link.sent P.Link.faults))
         (side P.did P.faults K.reads low.old low.new) (side P.did P.faults K.reads high.old high.new)
-        (disks S.told S.Disk.told shelf.old shelf.new) (O.written out.old) (O.faults out.old)
-        (source Q.left Q.faults keys.old keys.new) (file S.told shelf.old shelf.new table)
-        (FailsAt S.told S.Disk.told shelf.old shelf.new) session) (O.written out.new) (O.faults out.new) session
-        result }
-    ensures receive { (table : List ℕ) (session looks : ℕ)
-        → AreWordsOf (map string_bytes words.now.items) (commands.Receive table session looks) → S.told.tells
-        → S.Disk.told.tells
-        → EndsLive (ReceiveComes (links P.Link.gives P.Link.sent P.Link.faults) looks (P.did high.old.ports)
-        (P.did high.new.ports)
-        (O.written out.old) (O.faults out.old) (S.told.file shelf.old table) (S.told.disk shelf.old)
-        (S.told.disk shelf.new) (RecvFailsAt S.told S.Disk.told shelf.old shelf.new) session) (O.written out.new)
-        (O.faults out.new) session result }
-    ensures send { (table : List ℕ) (session looks : ℕ)
-        → AreWordsOf (map string_bytes words.now.items) (commands.Send table session looks) → S.told.tells
-        → EndsLive (SendComes (links P.Link.gives P.Link.sent P.Link.faults) looks (P.did low.old.ports)
-        (P.did low.new.ports)
-        (I.left script.old) (I.left script.new) (I.faults script.old) (I.faults script.new) (O.written out.old)
-        (O.faults out.old) (S.told.file shelf.old table) (S.told.faults shelf.old) (S.told.faults shelf.new) session)
-        (O.written out.new) (O.faults out.new) session result }
-    ensures append { (table : List ℕ) (session looks : ℕ)
-        → AreWordsOf (map string_bytes words.now.items) (commands.Append table session looks) → S.told.tells
-        → EndsLive (AppendComes (link_tells P.Link.gives P.Link.sent P.Link.faults) looks (P.did low.old.ports)
-        (P.did low.new.ports)
-        (I.left script.old) (I.left script.new) (I.faults script.old) (I.faults script.new) (O.written out.old)
-        (O.faults out.old) (S.told.file shelf.old table) (S.told.faults shelf.old) (S.told.faults shelf.new) session)
-        (O.written out.new) (O.faults out.new) session result }
+        S.told S.Disk.told shelf.old shelf.new (source Q.left Q.faults keys.old keys.new)
+        (source I.left I.faults script.old script.new) (O.written out.old) (O.written out.new) (O.faults out.old)
+        (O.faults out.new) result c }
 {
     let asked = match command_of(alloc, words.as_slice()) {
         Ok(asked) => asked,
